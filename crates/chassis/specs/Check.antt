@@ -1,0 +1,52 @@
+-- 01, "Numbers given back": numbers 11 to 15. "Least target" is over all 65,536 IDs or all 2^64 addresses.
+use Prim.Native.Nat.{ℕ}
+use mathlib.Core.Bool.{Bool, not, cond, _&&_, _||_}
+use lib.Dec.{eqb}
+use Rattle.ids.specs.declared.Target.{Target}
+use Rattle.ids.specs.declared.Target.the-variants.{Id}
+use Rattle.ids.specs.declared.Space.{Space}
+use Rattle.least.specs.declared.Found.{Found}
+use Rattle.least.specs.Least.{firstIn}
+use Rattle.chassis.specs.declared.Conversion.{Conversion}
+use Rattle.chassis.specs.declared.Conversion.the-variants.{NotClaimed, Type0, Type1, Unsupported}
+use Rattle.chassis.specs.Chassis.{Chassis, isOwn, holds, targetIn, spaceSize}
+use Rattle.chassis.specs.Tree.{rootPort, standsAt, anyBelow}
+
+-- 11, 12: "held by two ports at one place, or an ID claimed by the port whose own it is"; "a port with itself tried too"
+unfoldable pub clash : Chassis → Target → ℕ → ℕ → Bool
+clash c t p q =
+    cond (eqb p q) (isOwn c t p && c .claims p t)
+    (standsAt (c .tree) (c .tree .parent q) p && (holds c t p && holds c t q))
+
+unfoldable pub clashesWith : Chassis → Target → ℕ → Bool
+clashesWith c t p = anyBelow (clash c t p) (c .tree .count)
+
+unfoldable pub shared : Chassis → Target → Bool
+shared c t = anyBelow (clashesWith c t) (c .tree .count)
+
+-- 13, 14: "held by a port that is no root port, not claimed by its parent"
+unfoldable pub straysAt : Chassis → Target → ℕ → Bool
+straysAt c t p = not (eqb (c .tree .kind p) rootPort) && holds c t p && not (c .claims (c .tree .parent p) t)
+
+unfoldable pub stray : Chassis → Target → Bool
+stray c t = anyBelow (straysAt c t) (c .tree .count)
+
+-- 15: "the own ID of a port of kind 1 or 2 is not both claimed by its parent and Type 0 there"
+abbrev pub isType0 : Conversion → Bool
+isType0 NotClaimed = Bool.false
+isType0 Type0 = Bool.true
+isType0 Type1 = Bool.false
+isType0 Unsupported = Bool.false
+
+unfoldable pub ownIdLost : Chassis → ℕ → Bool
+ownIdLost c p =
+    not (eqb (c .tree .kind p) rootPort)
+    && not (c .claims (c .tree .parent p) (Id (record { 0 = c .ownId p }))
+    && isType0 (c .conversion (c .tree .parent p) (Id (record { 0 = c .ownId p }))))
+
+-- the least target of a space with a property
+unfoldable pub testIn : (Target → Bool) → Space → ℕ → Bool
+testIn test space n = test (targetIn space n)
+
+abbrev pub leastTarget : (Target → Bool) → Space → Found
+leastTarget test space = firstIn (testIn test space) 0 (spaceSize space)

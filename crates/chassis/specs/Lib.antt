@@ -1,0 +1,4 @@
+pub mod Tree
+pub mod Chassis
+pub mod Walk
+pub mod Check

@@ -1,0 +1,106 @@
+-- 01, "The walk": where a packet goes. `next` is the rules, one step at a time; `Walk` is what they give when repeated.
+use Prim.Native.Nat.{ℕ, _%_, _^_}
+use mathlib.Core.Bool.{Bool, true, false, cond}
+use mathlib.Core.List.{List, [], _∷_}
+use mathlib.Core.Path.{_≡_}
+use lib.Dec.{eqb}
+use Rattle.ids.specs.declared.PortNo.{PortNo}
+use Rattle.ids.specs.declared.Target.{Target}
+use Rattle.ids.specs.declared.Target.the-variants.{Id, Addr}
+use Rattle.chassis.specs.declared.Conversion.{Conversion}
+use Rattle.chassis.specs.declared.Conversion.the-variants.{NotClaimed, Type0 as AsType0, Type1 as AsType1, Unsupported as Refuses}
+use Rattle.chassis.specs.declared.End.{End}
+use Rattle.chassis.specs.declared.End.the-variants.{Device, Function, Host, Unsupported, Doubled}
+use Rattle.chassis.specs.declared.Holders.{Holders}
+use Rattle.chassis.specs.declared.Holders.the-variants.{Nobody, Only, Both}
+use Rattle.chassis.specs.declared.Packet.{Packet}
+use Rattle.chassis.specs.declared.Packet.the-variants.{Plain, Config}
+use Rattle.chassis.specs.declared.Step.{Step}
+use Rattle.chassis.specs.declared.Step.the-variants.{Stop, Cross}
+use Rattle.chassis.specs.declared.Whereabouts.{Whereabouts}
+use Rattle.chassis.specs.declared.Whereabouts.the-variants.{Root, Into, From, Type0, Type1}
+use Rattle.chassis.specs.Chassis.{Chassis, portNo, isOwn, holds, lowestAt}
+use Rattle.chassis.specs.Tree.{root, isDevicePort}
+
+abbrev pub targetOf : Packet → Target
+targetOf (Plain t) = t
+targetOf (Config rid) = Id rid
+
+-- "Function number being the low 3 bits, or 8 with ARI"
+unfoldable pub functionNumber : Chassis → ℕ → Target → ℕ
+functionNumber c q (Id rid) = cond (c .ari q) (rid .0 % 2 ^ 8) (rid .0 % 2 ^ 3)
+functionNumber c q (Addr a) = 0
+
+-- "A port about to be crossed decides": Type 0, Type 1 passes, or "Unsupported Request at this port, not crossed"
+unfoldable pub decided : PortNo → Conversion → Step
+decided p AsType0 = Cross p (Type0 p)
+decided p AsType1 = Cross p (Type1 p)
+decided p Refuses = Stop (Unsupported p)
+decided p NotClaimed = Stop (Unsupported p)
+
+abbrev pub decides : Chassis → Target → PortNo → Step
+decides c t p = decided p (c .conversion (p .0) t)
+
+-- crossing downward: a configuration request is decided on first
+unfoldable pub downward : Chassis → Packet → PortNo → Step
+downward c (Plain t) p = Cross p (Into p)
+downward c (Config rid) p = decides c (Id rid) p
+
+-- "1. two or more holders: doubled, the two lowest", and what a sole one or none leads to
+unfoldable pub byHolders : Holders → (PortNo → Step) → Step → Step
+byHolders Nobody sole none = none
+byHolders (Only p) sole none = sole p
+byHolders (Both p q) sole none = Stop (Doubled p q)
+
+-- "2. one holder: if the ID is its own, that Function is the end; else cross it downward"
+unfoldable pub soleHolder : Chassis → Packet → PortNo → Step
+soleHolder c packet p = cond (isOwn c (targetOf packet) (p .0)) (Stop (Function p)) (downward c packet p)
+
+-- rules 1 and 2 at a place, and what "none" leads to there
+abbrev pub atPlace : Chassis → Packet → ℕ → Step → Step
+atPlace c packet place none = byHolders (lowestAt c place (holds c (targetOf packet))) (soleHolder c packet) none
+
+-- "4. none, come from above: a device port's device is the end; otherwise Unsupported Request at the place's port"
+unfoldable pub deviceOr : Chassis → PortNo → ℕ → Step
+deviceOr c q function = cond (isDevicePort (c .tree) (q .0)) (Stop (Device q function)) (Stop (Unsupported q))
+
+-- where a packet is that crossed a port upward to this place
+unfoldable pub upTo : ℕ → Whereabouts
+upTo place = cond (eqb place root) Root (From (portNo place))
+
+-- "5. none, started or come from below: if the place's port claims the target, Unsupported Request at it, else cross it upward"
+unfoldable pub upward : Chassis → Target → PortNo → Step
+upward c t q = cond (c .claims (q .0) t) (Stop (Unsupported q)) (Cross q (upTo (c .tree .parent (q .0))))
+
+-- started or come from below; "A configuration request from a device port is an Unsupported Request there with no crossing."
+unfoldable pub fromBelow : Chassis → Packet → PortNo → Step
+fromBelow c (Plain t) q = atPlace c (Plain t) (q .0) (upward c t q)
+fromBelow c (Config rid) q = Stop (Unsupported q)
+
+-- "Type 0 ends at the one port there whose own ID is the target (more: doubled, as in 1); at a device port, at the device, ..;
+-- otherwise Unsupported Request at the port just crossed."
+unfoldable pub underType0 : Chassis → Target → PortNo → Step
+underType0 c t q =
+    byHolders (lowestAt c (q .0) (isOwn c t)) (λ p. Stop (Function p)) (deviceOr c q (functionNumber c (q .0) t))
+
+-- "Type 1 looks at claims only: two or more, doubled as in 1; one, decide again; none, or a device port, Unsupported Request at
+-- the port just crossed."
+unfoldable pub underType1 : Chassis → Target → PortNo → Step
+underType1 c t q = byHolders (lowestAt c (q .0) (λ p. c .claims p t)) (decides c t) (Stop (Unsupported q))
+
+-- the rules: "3. none, at the root: the host is the end"
+unfoldable pub next : Chassis → Packet → Whereabouts → Step
+next c packet Root = atPlace c packet root (Stop Host)
+next c packet (Into q) = atPlace c packet (q .0) (deviceOr c q 0)
+next c packet (From q) = fromBelow c packet q
+next c packet (Type0 q) = underType0 c (targetOf packet) q
+next c packet (Type1 q) = underType1 c (targetOf packet) q
+
+-- the rules repeated: the ports crossed, in order, and the end
+pub data Walk (c : Chassis) (packet : Packet) : Whereabouts → List PortNo → End → Type 0 where
+  ends : {w : Whereabouts} {e : End} → next c packet w ≡ Stop e → Walk c packet w [] e
+  goes : {w v : Whereabouts} {p : PortNo} {path : List PortNo} {e : End} → next c packet w ≡ Cross p v → Walk c packet v path e → Walk c packet w (p ∷ path) e
+
+-- "A packet starts at the root (start 255) or below a device port."
+unfoldable pub startsAt : ℕ → Whereabouts
+startsAt start = cond (eqb start root) Root (From (portNo start))

@@ -1,0 +1,50 @@
+// What a packet meets on its way through a chassis, and where it ends. The rules themselves are definitions, in specs/.
+use ids::PortNo;
+use ids::Rid;
+use ids::Target;
+
+// What is sent: a packet routed by its target, or a configuration request for an ID.
+pub enum Packet {
+    Plain(Target),
+    Config(Rid),
+}
+
+// The ports of a place that have to do with a target: the two lowest of them, where there are two or more.
+pub enum Holders {
+    Nobody,
+    Only(PortNo),
+    Both(PortNo, PortNo),
+}
+
+// What a port makes of a configuration request that it is about to be crossed by.
+pub enum Conversion {
+    NotClaimed,
+    Type0,
+    Type1,
+    Unsupported,
+}
+
+// Where a packet ends. The number of a Device is its Function number, used by configuration requests alone.
+pub enum End {
+    Device(PortNo, u8),
+    Function(PortNo),
+    Host,
+    Unsupported(PortNo),
+    Doubled(PortNo, PortNo),
+}
+
+// Where a packet is: at the root; below a port, come from above; below it, started there or come from below; below it
+// as a configuration request of Type 0 or of Type 1.
+pub enum Whereabouts {
+    Root,
+    Into(PortNo),
+    From(PortNo),
+    Type0(PortNo),
+    Type1(PortNo),
+}
+
+// What a packet does next: it stops at its end, or crosses a port and is elsewhere.
+pub enum Step {
+    Stop(End),
+    Cross(PortNo, Whereabouts),
+}

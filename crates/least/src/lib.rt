@@ -1,0 +1,27 @@
+// The answer of every search for the lowest number: a port, an entry or a target.
+ghost use mathlib.Core.Path.{_≡_};
+ghost use Rattle.least.specs.Least.{soonest};
+
+pub enum Found {
+    At(u64),
+    Nothing,
+}
+
+// The lower of two findings.
+pub fn sooner(a: Found, b: Found) -> Found
+    ensures { λ r. ⌜ r ≡ soonest a b ⌝ }
+{
+    match a {
+        Found::Nothing => b,
+        Found::At(i) => match b {
+            Found::Nothing => Found::At(i),
+            Found::At(j) => {
+                if i <= j {
+                    Found::At(i)
+                } else {
+                    Found::At(j)
+                }
+            }
+        },
+    }
+}
