@@ -33,10 +33,30 @@ pub fn entry(g: Settings, t: u64) -> Found
 pub fn is_set(v: &[u8], i: u64) -> bool
     ensures { λ r. ⌜ r ≡ isSet (now (v .entry)) i ⌝ }
 {
-    let at = (i / 8) as usize;
-    if at < v.len() {
-        (v[at] >> (i % 8)) % 2 == 1
-    } else {
-        false
+    (lent::u8_at(v, (i / 8) as usize) >> (i % 8)) % 2 == 1
+}
+
+// Whether the entry that applies to a target is set.
+pub fn hit(v: &[u8], g: Settings, t: u64) -> bool
+    requires { ⌜ g .scale < 64 ⌝ }
+    ensures { λ r. ⌜ r ≡ hits (now (v .entry)) g t ⌝ }
+{
+    match entry(g, t) {
+        Found::At(i) => is_set(v, i),
+        Found::Nothing => false,
     }
+}
+
+// The next entry from `from` on, below the size, that is set, or, where that is wanted, clear.
+pub fn next_entry(v: &[u8], want: bool, from: u64, size: u64) -> Found
+    ensures { λ r. ⌜ r ≡ firstIn (entryIs (now (v .entry)) want) from size ⌝ }
+{
+    let mut i = from;
+    while i < size {
+        if is_set(v, i) == want {
+            return Found::At(i);
+        }
+        i += 1;
+    }
+    Found::Nothing
 }
