@@ -1,5 +1,7 @@
+use Prim.Native.Nat.{_≤_, _<_}
+use native.Mathlib.Omega.{arith}
 use borrow.Author.Tests.{le-leb, lt-leb, lt-ltb, le-ltb}
-use Rattle.vectors.specs.Vectors.{entryOf}
+use Rattle.vectors.specs.Vectors.{entryOf, entryAt}
 use borrow.Author.Needs.{needs}
 use Rattle.vectors.proofs.entry.Statement.{statement}
 use Rattle.vectors.proofs.entry.Tie as tie
@@ -22,12 +24,16 @@ shr-i c = search needs
 -- src/lib.rt:17:1
 returns-2 : tie.Need-returns-2
 unfolding entryOf
-returns-2 c = simp (le-leb _ _ (c .before .before .before .before .if1 .left), lt-ltb _ _ (c .if2 .taken))
+returns-2 c = let a = c .before .before .before .before .before .before .args in
+    let inside : entryAt (a .g) (a .t) < a .g .size = omega arith in
+    simp (le-leb _ _ (c .before .before .before .before .if1 .left), lt-ltb _ _ inside)
 
 -- src/lib.rt:17:1
 returns-3 : tie.Need-returns-3
 unfolding entryOf
-returns-3 c = simp (le-leb _ _ (c .before .before .before .before .if1 .left), le-ltb _ _ (c .if2 .left))
+returns-3 c = let a = c .before .before .before .before .before .before .args in
+    let past : a .g .size ≤ entryAt (a .g) (a .t) = omega arith in
+    simp (le-leb _ _ (c .before .before .before .before .if1 .left), le-ltb _ _ past)
 
 pub entry-spec : {M : Type 1} → statement M
 entry-spec = tie.close (tie.spec returns cast-i shr-i returns-2 returns-3)
