@@ -16,10 +16,8 @@ headerOf s =
       count = u16At s 2;
       total = u32At s 4;
       «records_at» = u32At s 8;
-      «vectors_at» = u32At s 12 }
-
-abbrev pub countOf : List ℕ → ℕ
-countOf s = u16At s 2
+      «vectors_at» = u32At s 12;
+    }
 
 -- 1: "length under 72 or over 65,536"
 unfoldable pub lengthWrong : List ℕ → Bool

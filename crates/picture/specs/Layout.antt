@@ -5,17 +5,12 @@ use mathlib.Core.Bool.{Bool, not}
 use mathlib.Core.List.{List}
 use lib.ListN.{length, take, drop}
 use lib.Dec.{eqb}
-use Rattle.chassis.specs.Tree.{Tree}
 use Rattle.registers.specs.declared.Fpb.{Fpb}
 use Rattle.registers.specs.declared.Mechanism.{Mechanism}
 use Rattle.registers.specs.declared.Mechanism.the-variants.{Rid, Low, High}
 use Rattle.registers.specs.Record.{portAt, recordAt}
 use Rattle.registers.specs.Vectors.{vectorBytes}
-use Rattle.picture.specs.Header.{countOf}
-
--- how the ports of a picture hang together
-abbrev pub treeOf : List ℕ → Tree
-treeOf s = record { count = countOf s; kind = λ p. portAt s p .kind; parent = λ p. portAt s p .parent .0 }
+use Rattle.trees.specs.Trees.{countOf}
 
 -- the bytes of all vectors of a port
 abbrev pub allBytes : Fpb → ℕ

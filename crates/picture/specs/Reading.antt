@@ -10,14 +10,15 @@ use Rattle.chassis.specs.Chassis.{portNo}
 use Rattle.chassis.specs.Tree.{treeBroken, chainTooLong}
 use Rattle.registers.specs.Record.{portAt}
 use Rattle.registers.specs.Rules.{settingsWrong, startWrong}
+use Rattle.trees.specs.Trees.{countOf, treeOf}
 use Rattle.picture.specs.declared.Culprit.{Culprit}
 use Rattle.picture.specs.declared.Culprit.the-variants.{Port, Nobody}
 use Rattle.picture.specs.declared.Reading.{Reading}
 use Rattle.picture.specs.declared.Reading.the-variants.{Read, Refused}
 use Rattle.picture.specs.declared.Rule.{Rule}
 use Rattle.picture.specs.declared.Rule.the-variants.{Tree, Chain, Settings, Start}
-use Rattle.picture.specs.Header.{headerOf, countOf, lengthWrong, editionWrong, countWrong, totalWrong, offsetWrong}
-use Rattle.picture.specs.Layout.{treeOf, placeWrong, endWrong}
+use Rattle.picture.specs.Header.{headerOf, lengthWrong, editionWrong, countWrong, totalWrong, offsetWrong}
+use Rattle.picture.specs.Layout.{placeWrong, endWrong}
 
 -- what a port must not do
 unfoldable pub breaks : Rule → List ℕ → ℕ → Bool

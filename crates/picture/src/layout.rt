@@ -7,7 +7,7 @@ use registers::port_at;
 use registers::vector_bytes;
 ghost use mathlib.Core.Path.{_≡_};
 ghost use Prim.Native.Nat.{_≤_};
-ghost use Rattle.picture.specs.Header.{countOf};
+ghost use Rattle.trees.specs.Trees.{countOf};
 ghost use Rattle.picture.specs.Layout.{allBytes, offsetIn, vectorOf};
 ghost use Rattle.picture.specs.Reading.{culpritOf, misplacedIn};
 
@@ -16,7 +16,9 @@ fn all_bytes(f: Fpb) -> u64
     ensures { λ r. ⌜ r ≡ allBytes f ⌝ }
     ensures { λ r. ⌜ r ≤ 12288 ⌝ }
 {
-    vector_bytes(f, Mechanism::Rid) + vector_bytes(f, Mechanism::Low) + vector_bytes(f, Mechanism::High)
+    vector_bytes(f, Mechanism::Rid)
+        + vector_bytes(f, Mechanism::Low)
+        + vector_bytes(f, Mechanism::High)
 }
 
 // The lowest port whose vectors start elsewhere than at the running offset, or 255 if they do not end at the total.

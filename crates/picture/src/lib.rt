@@ -1,13 +1,9 @@
 // Reading a picture: any lent bytes are read, or refused with the number of the table and the port that it names.
 mod headers;
 mod layout;
-mod tree;
 
-pub use layout::vector;
-pub use tree::has_child_below;
-pub use tree::kind_at;
-pub use tree::parent_at;
 use ids::PortNo;
+pub use layout::vector;
 use registers::port_at;
 ghost use mathlib.Core.Path.{_≡_};
 ghost use Prim.Native.Nat.{_≤_};
@@ -52,8 +48,8 @@ fn breaks_rule(s: &[u8], p: PortNo, rule: Rule) -> bool
     ensures { λ r. ⌜ r ≡ breaks rule (now (s .entry)) (p .0) ⌝ }
 {
     match rule {
-        Rule::Tree => tree::tree_broken(s, p),
-        Rule::Chain => tree::chain_too_long(s, p),
+        Rule::Tree => trees::tree_broken(s, p),
+        Rule::Chain => trees::chain_too_long(s, p),
         Rule::Settings => registers::settings_wrong(port_at(s, p)),
         Rule::Start => registers::start_wrong(port_at(s, p)),
     }
@@ -73,7 +69,7 @@ fn lowest_culprit(s: &[u8], n: u8, rule: Rule) -> Culprit
     Culprit::Nobody
 }
 
-fn refusal(number: u8, port: PortNo) -> Reading
+fn refuse(number: u8, port: PortNo) -> Reading
     ensures { λ r. ⌜ r ≡ refused number (port .0) ⌝ }
 {
     Reading::Refused(Refusal { number, port })
@@ -87,19 +83,19 @@ fn read_ports(s: &[u8], h: Header) -> Reading
 {
     let n = h.count as u8;
     if let Culprit::Port(p) = lowest_culprit(s, n, Rule::Tree) {
-        return refusal(6, p);
+        return refuse(6, p);
     }
     if let Culprit::Port(p) = lowest_culprit(s, n, Rule::Chain) {
-        return refusal(7, p);
+        return refuse(7, p);
     }
     if let Culprit::Port(p) = lowest_culprit(s, n, Rule::Settings) {
-        return refusal(8, p);
+        return refuse(8, p);
     }
     if let Culprit::Port(p) = lowest_culprit(s, n, Rule::Start) {
-        return refusal(9, p);
+        return refuse(9, p);
     }
     if let Culprit::Port(p) = layout::misplaced(s, n) {
-        return refusal(10, p);
+        return refuse(10, p);
     }
     Reading::Read(h)
 }
@@ -109,20 +105,20 @@ pub fn read(s: &[u8]) -> Reading
     ensures { λ r. ⌜ r ≡ reading (now (s .entry)) ⌝ }
 {
     if headers::length_wrong(s) {
-        return refusal(1, PortNo(255));
+        return refuse(1, PortNo(255));
     }
     let h = headers::header_at(s);
     if headers::edition_wrong(h) {
-        return refusal(2, PortNo(255));
+        return refuse(2, PortNo(255));
     }
     if headers::count_wrong(h) {
-        return refusal(3, PortNo(255));
+        return refuse(3, PortNo(255));
     }
     if headers::total_wrong(s.len(), h) {
-        return refusal(4, PortNo(255));
+        return refuse(4, PortNo(255));
     }
     if headers::offset_wrong(s.len(), h) {
-        return refusal(5, PortNo(255));
+        return refuse(5, PortNo(255));
     }
     read_ports(s, h)
 }

@@ -19,7 +19,8 @@ bridgeAt s r =
       «prefetchable_limit» = u16At s (r + 14);
       «prefetchable_base_upper» = u32At s (r + 16);
       «prefetchable_limit_upper» = u32At s (r + 20);
-      «bridge_control» = u16At s (r + 26) }
+      «bridge_control» = u16At s (r + 26);
+    }
 
 unfoldable pub fpbAt : List ℕ → ℕ → Fpb
 fpbAt s r =
@@ -29,7 +30,8 @@ fpbAt s r =
       «rid_control_2» = u32At s (r + 36);
       «mem_low_control» = u32At s (r + 40);
       «mem_high_control_1» = u32At s (r + 44);
-      «mem_high_control_2» = u32At s (r + 48) }
+      «mem_high_control_2» = u32At s (r + 48);
+    }
 
 -- "Header of 16 .. Then n records of 56"
 abbrev pub recordAt : ℕ → ℕ
@@ -44,4 +46,5 @@ portAt s p =
       «device_control_2» = u16At s (recordAt p + 24);
       bridge = bridgeAt s (recordAt p);
       fpb = fpbAt s (recordAt p);
-      «vectors_at» = u32At s (recordAt p + 52) }
+      «vectors_at» = u32At s (recordAt p + 52);
+    }

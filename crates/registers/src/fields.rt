@@ -59,7 +59,8 @@ fn start(f: Fpb, m: Mechanism) -> u64
         Mechanism::Rid => ((f.rid_control_1 >> 19) % 8192) as u64 * 8,
         Mechanism::Low => ((f.mem_low_control >> 20) % 4096) as u64 * 1048576,
         Mechanism::High => {
-            (f.mem_high_control_2 as u64 * 16 + ((f.mem_high_control_1 >> 28) % 16) as u64) * 268435456
+            (f.mem_high_control_2 as u64 * 16 + ((f.mem_high_control_1 >> 28) % 16) as u64)
+                * 268435456
         }
     }
 }

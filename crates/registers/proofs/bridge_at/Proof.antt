@@ -102,7 +102,8 @@ returns c = λ i.
       «prefetchable_limit» = c .before .before .before .u16-at5 .ensures i;
       «prefetchable_base_upper» = c .before .before .u32-at .ensures i;
       «prefetchable_limit_upper» = c .before .u32-at2 .ensures i;
-      «bridge_control» = c .u16-at6 .ensures i }
+      «bridge_control» = c .u16-at6 .ensures i;
+    }
 
 pub bridge-at-spec : {M : Type 1} → statement M
 bridge-at-spec =

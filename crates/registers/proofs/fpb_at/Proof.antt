@@ -64,7 +64,8 @@ returns c = λ i.
       «rid_control_2» = c .before .before .before .u32-at3 .ensures i;
       «mem_low_control» = c .before .before .u32-at4 .ensures i;
       «mem_high_control_1» = c .before .u32-at5 .ensures i;
-      «mem_high_control_2» = c .u32-at6 .ensures i }
+      «mem_high_control_2» = c .u32-at6 .ensures i;
+    }
 
 pub fpb-at-spec : {M : Type 1} → statement M
 fpb-at-spec =

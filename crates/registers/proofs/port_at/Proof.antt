@@ -77,7 +77,8 @@ returns c = λ i.
       «device_control_2» = c .before .before .before .u16-at2 .ensures i;
       bridge = c .before .before .bridge-at .ensures i;
       fpb = c .before .fpb-at .ensures i;
-      «vectors_at» = c .u32-at .ensures i }
+      «vectors_at» = c .u32-at .ensures i;
+    }
 
 pub port-at-spec : {M : Type 1} → statement M
 port-at-spec =

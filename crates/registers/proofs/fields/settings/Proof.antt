@@ -34,13 +34,15 @@ add-t7 c = search needs
 -- src/fields.rt:86:1
 returns : tie.Need-returns
 unfolding settingsOf
-returns c = 
-    (λ i.
-    record {
-      size = c .before .before .before .size .ensures .0 i;
-      start = c .before .before .start .ensures i;
-      scale = c .before .unit-scale .ensures .0 i + c .granularity-code .ensures .0 i },
-    omega arith)
+returns c = (
+  λ i.
+      record {
+        size = c .before .before .before .size .ensures .0 i;
+        start = c .before .before .start .ensures i;
+        scale = c .before .unit-scale .ensures .0 i + c .granularity-code .ensures .0 i;
+      },
+  omega arith,
+)
 
 pub settings-spec : {M : Type 1} → statement M
 settings-spec =

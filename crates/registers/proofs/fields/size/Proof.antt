@@ -23,9 +23,10 @@ shl-result c = search needs
 
 -- src/fields.rt:80:1
 returns : tie.Need-returns
-returns c = 
-    (size-whole _ (c .size-code .ensures .1) ∙ ap (λ (code : ℕ). 256 * 2 ^ code) (c .size-code .ensures .0),
-    rw (size-whole _ (c .size-code .ensures .1)) (size-small _ (c .size-code .ensures .1)))
+returns c = (
+  size-whole _ (c .size-code .ensures .1) ∙ ap (λ (code : ℕ). 256 * 2 ^ code) (c .size-code .ensures .0),
+  rw (size-whole _ (c .size-code .ensures .1)) (size-small _ (c .size-code .ensures .1)),
+)
 
 pub size-spec : {M : Type 1} → statement M
 size-spec = tie.close (tie.spec size-code-requires cast-result shl-result returns)

@@ -1,9 +1,9 @@
 // How the ports of a picture hang together: kinds, parents, children and chains (numbers 6 and 7).
 use ids::PortNo;
 ghost use mathlib.Core.Path.{_≡_};
-ghost use Rattle.chassis.specs.Tree.{hasChildBelow, isDevicePort, upstreamBroken, downstreamBroken, treeBroken, above, chainTooLong};
+ghost use Rattle.chassis.specs.Tree.{hasChildBelow, isDevicePort, upstreamBroken, downstreamBroken, treeBroken, oneAbove, chainTooLong};
 ghost use Rattle.registers.specs.Record.{portAt};
-ghost use Rattle.picture.specs.Layout.{treeOf};
+ghost use Rattle.trees.specs.Trees.{treeOf};
 
 pub fn kind_at(s: &[u8], p: PortNo) -> u8
     ensures { λ r. ⌜ r ≡ portAt (now (s .entry)) (p .0) .kind ⌝ }
@@ -60,6 +60,7 @@ pub fn tree_broken(s: &[u8], p: PortNo) -> bool
 
 // The port above p, and 255 once the root is reached.
 fn step_up(s: &[u8], p: PortNo) -> PortNo
+    ensures { λ r. ⌜ r .0 ≡ oneAbove (treeOf (now (s .entry))) (p .0) ⌝ }
 {
     if p.0 == 255 {
         return p;
