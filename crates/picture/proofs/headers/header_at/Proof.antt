@@ -1,3 +1,4 @@
+use Rattle.picture.specs.Header.{headerOf}
 use borrow.Author.Needs.{needs}
 use Rattle.picture.proofs.headers.header_at.Statement.{statement}
 use Rattle.picture.proofs.headers.header_at.Tie as tie
@@ -28,7 +29,16 @@ u32-at-requires-3 c κs = search needs
 
 -- src/headers.rt:8:1
 returns : tie.Need-returns
-returns c = ?
+unfolding headerOf
+returns c =
+    λ i.
+    record {
+      edition = c .before .before .before .before .u16-at .ensures i;
+      count = c .before .before .before .u16-at2 .ensures i;
+      total = c .before .before .u32-at .ensures i;
+      «records_at» = c .before .u32-at2 .ensures i;
+      «vectors_at» = c .u32-at3 .ensures i;
+    }
 
 pub header-at-spec : {M : Type 1} → statement M
 header-at-spec =

@@ -1,3 +1,5 @@
+use mathlib.Core.Path.{refl}
+use Rattle.picture.specs.Header.{offsetWrong}
 use borrow.Author.Needs.{needs}
 use Rattle.picture.proofs.headers.offset_wrong.Statement.{statement}
 use Rattle.picture.proofs.headers.offset_wrong.Tie as tie
@@ -22,7 +24,8 @@ cast-result c = search needs
 
 -- src/headers.rt:44:1
 returns : tie.Need-returns
-returns c = ?
+unfolding offsetWrong
+returns c = refl
 
 pub offset-wrong-spec : {M : Type 1} → statement M
 offset-wrong-spec =

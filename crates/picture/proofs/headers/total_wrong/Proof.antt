@@ -1,3 +1,5 @@
+use mathlib.Core.Path.{refl}
+use Rattle.picture.specs.Header.{totalWrong}
 use borrow.Author.Needs.{needs}
 use Rattle.picture.proofs.headers.total_wrong.Statement.{statement}
 use Rattle.picture.proofs.headers.total_wrong.Tie as tie
@@ -10,7 +12,8 @@ cast-result c = search needs
 
 -- src/headers.rt:38:1
 returns : tie.Need-returns
-returns c = ?
+unfolding totalWrong
+returns c = refl
 
 pub total-wrong-spec : {M : Type 1} → statement M
 total-wrong-spec = tie.close (tie.spec cast-result returns)

@@ -1,3 +1,4 @@
+use Rattle.picture.specs.Layout.{vectorOf}
 use borrow.Author.Needs.{needs}
 use Rattle.picture.proofs.layout.vector.Statement.{statement}
 use Rattle.picture.proofs.layout.vector.Tie as tie
@@ -34,7 +35,8 @@ part-requires c κs = search needs
 
 -- src/layout.rt:57:1
 returns : tie.Need-returns
-returns c = ?
+unfolding vectorOf
+returns c = rw (c .part .ensures, c .before .vector-bytes .ensures .0, c .before .before .offset-in .ensures .0, c .before .before .before .before .before .port-at .ensures)
 
 pub vector-spec : {M : Type 1} → statement M
 vector-spec =
