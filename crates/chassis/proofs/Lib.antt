@@ -1,2 +1,5 @@
 pub mod Bools
 pub mod Ports
+pub mod Tree
+pub mod Steps
+pub mod Walks
