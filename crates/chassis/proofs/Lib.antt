@@ -3,3 +3,4 @@ pub mod Ports
 pub mod Tree
 pub mod Steps
 pub mod Walks
+pub mod CheckLaws

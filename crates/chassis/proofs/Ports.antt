@@ -77,6 +77,9 @@ module _ (test : ℕ → Bool) where
       go s true e = e
       go s false e = never-both-values (test (s .number)) (s .passes) (none-below n e (s .number) (s .below))
 
+  pub anyBelow-at : (n i : ℕ) → i < n → test i ≡ true → anyBelow test n ≡ true
+  anyBelow-at n i l e = anyBelow-true n .1 (record { number = i; below = l; passes = e })
+
   pub anyBelow-false : (n : ℕ) → (anyBelow test n ≡ false) ↔ NoneBelow test n
   anyBelow-false n = (none-below n, λ none. go none (anyBelow test n) refl)
     where
