@@ -4,3 +4,4 @@ pub mod Tree
 pub mod Steps
 pub mod Walks
 pub mod CheckLaws
+pub mod LeastTarget
