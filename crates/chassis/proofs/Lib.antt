@@ -5,3 +5,5 @@ pub mod Steps
 pub mod Walks
 pub mod CheckLaws
 pub mod LeastTarget
+pub mod Clean
+pub mod Ways
