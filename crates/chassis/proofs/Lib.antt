@@ -7,3 +7,5 @@ pub mod CheckLaws
 pub mod LeastTarget
 pub mod Clean
 pub mod Ways
+pub mod Homeward
+pub mod Demand3

@@ -158,3 +158,13 @@ passesAt-true c place test p = (
 -- what the lowest ports at a place are: each answer is given exactly if what it says is so
 pub lowestAt-is : (c : Chassis) (place : ℕ) (test : ℕ → Bool) (found : Holders) → (lowestAt c place test ≡ found) ↔ Says (passesAt c place test) (c .tree .count) found
 lowestAt-is c place test = lowestTwo-is (passesAt c place test) (c .tree .count)
+
+-- nobody is found at a place where no port passes
+pub nobody-at : (c : Chassis) (place : ℕ) (test : ℕ → Bool) → ((p : ℕ) → p < c .tree .count → c .tree .parent p ≡ place → test p ≡ true → ⊥) → lowestAt c place test ≡ Nobody
+nobody-at c place test none = lowestAt-is c place test Nobody .1 (λ i l. go i l (passesAt c place test i) refl)
+  where
+    go : (i : ℕ) → i < c .tree .count → (b : Bool) → passesAt c place test i ≡ b → passesAt c place test i ≡ false
+    go i l false e = e
+    go i l true e =
+        let parts = passesAt-true c place test i .0 e in
+        absurd (none i l (parts .0) (parts .1))

@@ -27,6 +27,15 @@ walk-one {c} {packet} (goes {v = v} s k) (goes {v = v′} {path = path′} {e = 
     let rest = walk-one k (subst (λ (u : Whereabouts). Walk c packet u path′ e′) same k′) in
     (cc (rest .0), rest .1)
 
+-- what is ahead of a packet once it has crossed the next port
+pub walk-rest : {c : Chassis} {packet : Packet} {w v : Whereabouts} {p : PortNo} {path : List PortNo} {e : End} → next c packet w ≡ Cross p v → Walk c packet w path e → (rest : List PortNo) × Walk c packet v rest e
+walk-rest s (ends s′) =
+    let z : _≡_ {A = ℕ} 0 1 = cc in
+    absurd (omega arith)
+walk-rest {c} {packet} {v = v} {e = e} s (goes {v = u} {path = rest} s′ k) =
+    let same : u ≡ v = cc in
+    (rest, subst (λ (x : Whereabouts). Walk c packet x rest e) same k)
+
 pub record Arrival (c : Chassis) (packet : Packet) (w : Whereabouts) : Type 0 where
   pub path : List PortNo
   pub end : End
