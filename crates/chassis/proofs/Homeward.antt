@@ -24,7 +24,7 @@ use Rattle.chassis.specs.Tree.{root, rootPort, upstream, standsAt, anyBe
 use Rattle.chassis.specs.Walk.{byHolders, soleHolder, downward, atPlace, deviceOr, upTo, upward, fromBelow, next, Walk, ends, goes}
 use Rattle.chassis.proofs.Bools.{never-both-values, and-true-parts}
 use Rattle.chassis.proofs.Ports.{NoneBelow, anyBelow-at, anyBelow-false, nobody-at}
-use Rattle.chassis.proofs.Tree.{Sane, root-port-parent, other-parent, parent-root}
+use Rattle.chassis.proofs.Tree.{Sane, root-port-parent, other-parent, by-parents}
 use Rattle.chassis.proofs.Walks.{walk-rest}
 use Rattle.chassis.proofs.Clean.{Clean, claimed-held, sole-where-it-stands, never-two, claimed-not-own, held-claimed-above}
 
@@ -75,23 +75,24 @@ module _ (c : Chassis) (t : Target) (sane : Sane (c .tree)) (clean : Clean c t) 
   crosses-claimer q none l e =
       rw (sole-where-it-stands c t clean q l (claimed-held c t q e)) (rw (claimed-not-own c t clean q l e))
 
-  -- a walk on from below a port that claims the target is the end of a walk from the host
-  claimed-from-host : (n q : ℕ) → q < n → q < c .tree .count → c .claims q t ≡ true → (path : List PortNo) (e : End) → Walk c (Plain t) (Into (portNo q)) path e → FromHost c t e
+  -- where a port claims the target, a walk on from below it is the end of a walk from the host
+  abbrev ClaimedFromHost : ℕ → Type 0
+  ClaimedFromHost q = c .claims q t ≡ true → (path : List PortNo) (e : End) → Walk c (Plain t) (Into (portNo q)) path e → FromHost c t e
+
+  claimed-at-root : (q : ℕ) → q < c .tree .count → c .tree .kind q ≡ rootPort → ClaimedFromHost q
   unfolding next
-  claimed-from-host zero q m l claims path e k = absurd (not-suc-le-zero m)
-  claimed-from-host (suc n) q m l claims path e k =
-      go (ℕ-discrete (c .tree .kind q) rootPort) (claimed-from-host n (c .tree .parent q))
-    where
-      go : Dec (c .tree .kind q ≡ rootPort)
-          → (c .tree .parent q < n → c .tree .parent q < c .tree .count → c .claims (c .tree .parent q) t ≡ true → (path′ : List PortNo) (e′ : End) → Walk c (Plain t) (Into (portNo (c .tree .parent q))) path′ e′ → FromHost c t e′)
-          → FromHost c t e
-      go (yes top) up =
-          let crossing = rw (root-port-parent (c .tree) sane q l top) at (crosses-claimer q (Stop Host) l claims) in
-          record { path = portNo q ∷ path; walk = goes crossing k }
-      go (no lower) up =
-          let above = other-parent (c .tree) sane q l lower in
-          up (omega arith) (omega arith) (held-claimed-above c t clean q l lower (claimed-held c t q claims)) _ e
-          (goes (crosses-claimer q (deviceOr c (portNo (c .tree .parent q)) 0) l claims) k)
+  claimed-at-root q l top claims path e k =
+      let crossing = rw (root-port-parent (c .tree) sane q l top) at (crosses-claimer q (Stop Host) l claims) in
+      record { path = portNo q ∷ path; walk = goes crossing k }
+
+  claimed-below : (q : ℕ) → q < c .tree .count → (c .tree .kind q ≡ rootPort → ⊥) → ClaimedFromHost (c .tree .parent q) → ClaimedFromHost q
+  unfolding next
+  claimed-below q l lower up claims path e k =
+      up (held-claimed-above c t clean q l lower (claimed-held c t q claims)) _ e
+      (goes (crosses-claimer q (deviceOr c (portNo (c .tree .parent q)) 0) l claims) k)
+
+  claimed-from-host : (q : ℕ) → q < c .tree .count → ClaimedFromHost q
+  claimed-from-host = by-parents (c .tree) sane ClaimedFromHost claimed-at-root claimed-below
 
   -- below a port with a child that claims the target it does not matter from where the packet came
   turns-alike : (q : PortNo) → isDevicePort (c .tree) (q .0) ≡ false → c .claims (q .0) t ≡ true → next c (Plain t) (Into q) ≡ next c (Plain t) (From q)
@@ -113,37 +114,46 @@ module _ (c : Chassis) (t : Target) (sane : Sane (c .tree)) (clean : Clean c t) 
   unfolding next fromBelow upward byHolders
   goes-up q l unclaimed = rw (nobody-below q l unclaimed) (rw unclaimed)
 
-  -- a port that a packet may come from below and still end where the host's does: it does not claim the target, or has a child
-  abbrev Passed : ℕ → Type 0
-  Passed q = (c .claims q t ≡ true) → isDevicePort (c .tree) q ≡ false
+  -- unless a device port claims the target, a walk from below it is the end of a walk from the host
+  abbrev BelowFromHost : ℕ → Type 0
+  BelowFromHost q =
+      (c .claims q t ≡ true → isDevicePort (c .tree) q ≡ false) → (path : List PortNo) (e : End)
+      → Walk c (Plain t) (From (portNo q)) path e → FromHost c t e
 
-  -- a packet that has crossed a port upward goes on from the root, or from below the port's parent
-  on-from-host : (q : PortNo) → q .0 < c .tree .count → (path : List PortNo) (e : End) → Walk c (Plain t) (upTo (c .tree .parent (q .0))) path e
-      → (c .tree .parent (q .0) < q .0 → (path′ : List PortNo) (e′ : End) → Walk c (Plain t) (From (portNo (c .tree .parent (q .0)))) path′ e′ → FromHost c t e′)
-      → FromHost c t e
+  -- where it claims the target, the walk turns downward; else it goes on above
+  turned-or-above : (q : ℕ) → q < c .tree .count
+      → ((path : List PortNo) (e : End) → Walk c (Plain t) (upTo (c .tree .parent q)) path e → FromHost c t e)
+      → BelowFromHost q
+  turned-or-above q l above no-device path e k = go (c .claims q t) refl
+    where
+      go : (b : Bool) → c .claims q t ≡ b → FromHost c t e
+      go true claims = claimed-from-host q l claims path e (same-walk (turns-alike (portNo q) (no-device claims) claims) k)
+      go false claims =
+          let rest = walk-rest (goes-up (portNo q) l claims) k in
+          above (rest .0) e (rest .1)
+
+  below-at-root : (q : ℕ) → q < c .tree .count → c .tree .kind q ≡ rootPort → BelowFromHost q
   unfolding upTo
-  on-from-host q l path e k up = go (ℕ-discrete (c .tree .kind (q .0)) rootPort)
+  below-at-root q l top = turned-or-above q l above
     where
-      go : Dec (c .tree .kind (q .0) ≡ rootPort) → FromHost c t e
-      go (yes top) = record { path = path; walk = subst (λ (place : ℕ). Walk c (Plain t) (upTo place) path e) (root-port-parent (c .tree) sane (q .0) l top) k }
-      go (no lower) =
-          let above = other-parent (c .tree) sane (q .0) l lower in
-          let port = ne-eqb (c .tree .parent (q .0)) root (λ at-root. omega (arith, sane .few)) in
-          up above path e (subst (λ (b : Bool). Walk c (Plain t) (cond b Root (From (portNo (c .tree .parent (q .0))))) path e) port k)
+      above : (path : List PortNo) (e : End) → Walk c (Plain t) (upTo (c .tree .parent q)) path e → FromHost c t e
+      above path e k =
+          let at-root = root-port-parent (c .tree) sane q l top in
+          record { path = path; walk = subst (λ (place : ℕ). Walk c (Plain t) (upTo place) path e) at-root k }
 
-  below-from-host : (n : ℕ) (q : PortNo) → q .0 < n → q .0 < c .tree .count → Passed (q .0) → (path : List PortNo) (e : End) → Walk c (Plain t) (From q) path e → FromHost c t e
-  below-from-host zero q m l passed path e k = absurd (not-suc-le-zero m)
-  below-from-host (suc n) q m l passed path e k = go (c .claims (q .0) t) refl (below-from-host n (portNo (c .tree .parent (q .0))))
+  below-below : (q : ℕ) → q < c .tree .count → (c .tree .kind q ≡ rootPort → ⊥) → BelowFromHost (c .tree .parent q) → BelowFromHost q
+  unfolding upTo
+  below-below q l lower up = turned-or-above q l above
     where
-      go : (b : Bool) → c .claims (q .0) t ≡ b
-          → (c .tree .parent (q .0) < n → c .tree .parent (q .0) < c .tree .count → Passed (c .tree .parent (q .0)) → (path′ : List PortNo) (e′ : End) → Walk c (Plain t) (From (portNo (c .tree .parent (q .0)))) path′ e′ → FromHost c t e′)
-          → FromHost c t e
-      go true claims up = claimed-from-host (suc (q .0)) (q .0) (le-refl _) l claims path e (same-walk (turns-alike q (passed claims) claims) k)
-      go false claims up =
-          let rest = walk-rest (goes-up q l claims) k in
-          on-from-host q l (rest .0) e (rest .1) (λ above. up (omega arith) (omega arith) (λ claimed. parent-no-device c (q .0) l))
+      above : (path : List PortNo) (e : End) → Walk c (Plain t) (upTo (c .tree .parent q)) path e → FromHost c t e
+      above path e k =
+          let less = other-parent (c .tree) sane q l lower in
+          let port = ne-eqb (c .tree .parent q) root (λ at-root. omega (arith, sane .few)) in
+          up (λ claimed. parent-no-device c q l) path e
+          (subst (λ (b : Bool). Walk c (Plain t) (cond b Root (From (portNo (c .tree .parent q)))) path e) port k)
 
   -- the end of a packet that started below a device port which does not claim the target is the end of the host's packet
   pub same-end : (d : PortNo) {path : List PortNo} {e : End} → isDevicePort (c .tree) (d .0) ≡ true → c .claims (d .0) t ≡ false → Walk c (Plain t) (From d) path e → FromHost c t e
   same-end d {path} {e} device unclaimed k =
-      below-from-host (suc (d .0)) d (le-refl _) (device-port-below c (d .0) device) (λ claimed. never-both-values (c .claims (d .0) t) claimed unclaimed) path e k
+      by-parents (c .tree) sane BelowFromHost below-at-root below-below (d .0) (device-port-below c (d .0) device)
+      (λ claimed. never-both-values (c .claims (d .0) t) claimed unclaimed) path e k

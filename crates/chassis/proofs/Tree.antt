@@ -3,7 +3,7 @@ use Prim.Native.Nat.{ℕ, zero, suc, _<_, _≤_}
 use mathlib.Core.Bool.{Bool, true, false, not, cond}
 use mathlib.Core.Logic.{_↔_}
 use mathlib.Core.Path.{_≡_, refl, sym, _∙_, ap}
-use native.Mathlib.Nat.{le-trans}
+use native.Mathlib.Nat.{le-refl, not-suc-le-zero}
 use native.Mathlib.Decide.{ℕ-discrete}
 use native.Mathlib.Omega.{arith}
 use lib.Dec.{eqb, ltb}
@@ -97,3 +97,23 @@ module _ (tree : Tree) (sane : Sane tree) where
 
   pub depth-root-port : (p : ℕ) → p < tree .count → tree .kind p ≡ rootPort → depth tree p ≡ 1
   depth-root-port p l e = rw (depth-parent p l, root-port-parent p l e, depth-root tree)
+
+  up-to : (P : ℕ → Type 0)
+      → ((p : ℕ) → p < tree .count → tree .kind p ≡ rootPort → P p)
+      → ((p : ℕ) → p < tree .count → (tree .kind p ≡ rootPort → ⊥) → P (tree .parent p) → P p)
+      → (n p : ℕ) → p < n → p < tree .count → P p
+  up-to P top lower zero p m l = absurd (not-suc-le-zero m)
+  up-to P top lower (suc n) p m l = go (ℕ-discrete (tree .kind p) rootPort) (up-to P top lower n (tree .parent p))
+    where
+      go : Dec (tree .kind p ≡ rootPort) → (tree .parent p < n → tree .parent p < tree .count → P (tree .parent p)) → P p
+      go (yes is-root) above = top p l is-root
+      go (no other) above =
+          let less = other-parent p l other in
+          lower p l other (above (omega arith) (omega arith))
+
+  -- what holds of every root port, and of every other port if it holds of its parent, holds of every port
+  pub by-parents : (P : ℕ → Type 0)
+      → ((p : ℕ) → p < tree .count → tree .kind p ≡ rootPort → P p)
+      → ((p : ℕ) → p < tree .count → (tree .kind p ≡ rootPort → ⊥) → P (tree .parent p) → P p)
+      → (p : ℕ) → p < tree .count → P p
+  by-parents P top lower p l = up-to P top lower (suc p) p (le-refl _) l
