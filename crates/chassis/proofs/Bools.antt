@@ -1,5 +1,5 @@
 -- What the value of a test made of two tests says of the two.
-use mathlib.Core.Bool.{Bool, true, false, not, _&&_, _||_, true≢false}
+use mathlib.Core.Bool.{Bool, true, false, _&&_, _||_, true≢false}
 use mathlib.Core.Path.{_≡_, refl, sym, _∙_}
 
 -- a test cannot have both values

@@ -1,17 +1,19 @@
 -- What the checks of 11 to 14 say: a target is shared or astray exactly if ports as the numbers describe are there.
-use Prim.Native.Nat.{ℕ, zero, suc, _<_}
-use mathlib.Core.Bool.{Bool, true, false, not, cond, _&&_, _||_}
+use Prim.Native.Nat.{ℕ, _<_}
+use mathlib.Core.Bool.{Bool, true, false, not, cond, _&&_}
 use mathlib.Core.Logic.{_↔_}
-use mathlib.Core.Path.{_≡_, refl, sym, _∙_, ap, subst}
-use native.Mathlib.Decide.{ℕ-discrete}
+use mathlib.Core.Path.{_≡_, refl}
 use lib.Dec.{eqb}
-use borrow.Author.Tests.{eqb-true, eqb-false, eq-eqb, ne-eqb, not-true, not-false}
+use borrow.Author.Tests.{eqb-true, eqb-false, eq-eqb, ne-eqb, not-true}
 use Rattle.ids.specs.declared.Target.{Target}
+use Rattle.ids.specs.declared.Target.the-variants.{Id}
+use Rattle.chassis.specs.declared.Conversion.{Conversion}
+use Rattle.chassis.specs.declared.Conversion.the-variants.{NotClaimed, Type0, Type1, Unsupported}
 use Rattle.chassis.specs.Chassis.{Chassis, isOwn, holds}
-use Rattle.chassis.specs.Check.{clash, clashesWith, shared, straysAt, stray}
-use Rattle.chassis.specs.Tree.{rootPort, standsAt, anyBelow}
-use Rattle.chassis.proofs.Bools.{and-true-parts}
-use Rattle.chassis.proofs.Ports.{SomeBelow, anyBelow-true, anyBelow-at}
+use Rattle.chassis.specs.Check.{clash, clashesWith, shared, straysAt, stray, isType0, ownIdLost}
+use Rattle.chassis.specs.Tree.{rootPort, standsAt}
+use Rattle.chassis.proofs.Bools.{never-both-values, and-true-parts}
+use Rattle.chassis.proofs.Ports.{anyBelow-true, anyBelow-at}
 
 -- "held by two ports at one place"
 pub record HeldByTwo (c : Chassis) (t : Target) (p q : ℕ) : Type 0 where
@@ -24,6 +26,9 @@ pub record HeldByTwo (c : Chassis) (t : Target) (p q : ℕ) : Type 0 where
 pub record OwnClaimed (c : Chassis) (t : Target) (p : ℕ) : Type 0 where
   pub own : isOwn c t p ≡ true
   pub claimed : c .claims p t ≡ true
+
+abbrev pub ownTarget : Chassis → ℕ → Target
+ownTarget c p = Id (record { 0 = c .ownId p })
 
 -- two ports clash: "a port with itself tried too"
 pub data Clash (c : Chassis) (t : Target) (p q : ℕ) : Type 0 where
@@ -48,6 +53,12 @@ pub record SomeAstray (c : Chassis) (t : Target) : Type 0 where
   pub port : ℕ
   pub below : port < c .tree .count
   pub astray : Astray c t port
+
+-- "the own ID of a port of kind 1 or 2 is not both claimed by its parent and Type 0 there"
+pub record OwnIdLost (c : Chassis) (p : ℕ) : Type 0 where
+  pub no-root-port : c .tree .kind p ≡ rootPort → ⊥
+  pub not-both : c .claims (c .tree .parent p) (ownTarget c p) ≡ true
+      → c .conversion (c .tree .parent p) (ownTarget c p) ≡ Type0 → ⊥
 
 module _ (c : Chassis) (t : Target) where
   clash-told : (p q : ℕ) → clash c t p q ≡ true → Clash c t p q
@@ -115,3 +126,28 @@ module _ (c : Chassis) (t : Target) where
         record { port = s .number; below = s .below; astray = astray-told (s .number) (s .passes) },
     λ a. anyBelow-at (straysAt c t) (c .tree .count) (a .port) (a .below) (astray-shown (a .port) (a .astray)),
   )
+
+not-both-told : (claimed : Bool) (x : Conversion) → not (claimed && isType0 x) ≡ true → claimed ≡ true → x ≡ Type0 → ⊥
+not-both-told claimed x e is-claimed is-type0 = never-both-values (claimed && isType0 x) (rw (is-claimed, is-type0)) (not-true _ e)
+
+not-both-shown : (claimed : Bool) (x : Conversion) → (claimed ≡ true → x ≡ Type0 → ⊥) → not (claimed && isType0 x) ≡ true
+not-both-shown false x not-both = refl
+not-both-shown true NotClaimed not-both = refl
+not-both-shown true Type0 not-both = absurd (not-both refl refl)
+not-both-shown true Type1 not-both = refl
+not-both-shown true Unsupported not-both = refl
+
+module _ (c : Chassis) (p : ℕ) where
+  own-id-lost-told : ownIdLost c p ≡ true → OwnIdLost c p
+  unfolding ownIdLost
+  own-id-lost-told e =
+      let parts = and-true-parts (not (eqb (c .tree .kind p) rootPort)) _ e in
+      record { no-root-port = eqb-false _ _ (not-true _ (parts .0)); not-both = not-both-told _ _ (parts .1) }
+
+  own-id-lost-shown : OwnIdLost c p → ownIdLost c p ≡ true
+  unfolding ownIdLost
+  own-id-lost-shown lost = simp (ne-eqb _ _ (lost .no-root-port), not-both-shown _ _ (lost .not-both))
+
+  -- an own ID is found lost exactly if it is
+  pub ownIdLost-true : (ownIdLost c p ≡ true) ↔ OwnIdLost c p
+  ownIdLost-true = (own-id-lost-told, own-id-lost-shown)

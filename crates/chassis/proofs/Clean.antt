@@ -1,12 +1,12 @@
 -- A target that is neither shared nor astray: who holds it at a place, and who claims it above.
 use Prim.Native.Nat.{ℕ, _<_}
-use mathlib.Core.Bool.{Bool, true, false, _||_, or-true}
+use mathlib.Core.Bool.{Bool, true, false, or-true}
 use mathlib.Core.Path.{_≡_, refl, sym, _∙_}
 use native.Mathlib.Decide.{ℕ-discrete}
 use native.Mathlib.Omega.{arith}
 use Rattle.ids.specs.declared.PortNo.{PortNo}
 use Rattle.ids.specs.declared.Target.{Target}
-use Rattle.chassis.specs.declared.Holders.the-variants.{Nobody, Only, Both}
+use Rattle.chassis.specs.declared.Holders.the-variants.{Only, Both}
 use Rattle.chassis.specs.Chassis.{Chassis, portNo, isOwn, holds, passesAt, lowestAt}
 use Rattle.chassis.specs.Check.{shared, stray}
 use Rattle.chassis.specs.Tree.{rootPort}
@@ -30,7 +30,8 @@ module _ (c : Chassis) (t : Target) (clean : Clean c t) where
       (clean .unshared)
 
   -- of the ports at one place at most one holds it
-  pub one-holder : (p q : ℕ) → p < c .tree .count → q < c .tree .count → c .tree .parent p ≡ c .tree .parent q → holds c t p ≡ true → holds c t q ≡ true → p ≡ q
+  pub one-holder : (p q : ℕ) → p < c .tree .count → q < c .tree .count → c .tree .parent p ≡ c .tree .parent q
+      → holds c t p ≡ true → holds c t q ≡ true → p ≡ q
   one-holder p q l m place h k = go (ℕ-discrete p q)
     where
       go : Dec (p ≡ q) → p ≡ q
@@ -39,7 +40,8 @@ module _ (c : Chassis) (t : Target) (clean : Clean c t) where
           absurd (no-clash p q l m (between-two (record { distinct = other; one-place = place; first-holds = h; second-holds = k })))
 
   -- a port that holds it is found alone where it stands
-  pub sole-where-it-stands : (p : ℕ) → p < c .tree .count → holds c t p ≡ true → lowestAt c (c .tree .parent p) (holds c t) ≡ Only (portNo p)
+  pub sole-where-it-stands : (p : ℕ) → p < c .tree .count → holds c t p ≡ true
+      → lowestAt c (c .tree .parent p) (holds c t) ≡ Only (portNo p)
   sole-where-it-stands p l h =
       lowestAt-is c (c .tree .parent p) (holds c t) (Only (portNo p)) .1
       (record { below = l; passes = passesAt-true c (c .tree .parent p) (holds c t) p .1 (refl, h); only = only })
@@ -67,7 +69,8 @@ module _ (c : Chassis) (t : Target) (clean : Clean c t) where
       go true is = absurd (no-clash p p l l (with-itself refl (record { own = is; claimed = e })))
 
   -- what a port below another holds, that other claims
-  pub held-claimed-above : (p : ℕ) → p < c .tree .count → (c .tree .kind p ≡ rootPort → ⊥) → holds c t p ≡ true → c .claims (c .tree .parent p) t ≡ true
+  pub held-claimed-above : (p : ℕ) → p < c .tree .count → (c .tree .kind p ≡ rootPort → ⊥) → holds c t p ≡ true
+      → c .claims (c .tree .parent p) t ≡ true
   held-claimed-above p l k h = go (c .claims (c .tree .parent p) t) refl
     where
       go : (b : Bool) → c .claims (c .tree .parent p) t ≡ b → c .claims (c .tree .parent p) t ≡ true

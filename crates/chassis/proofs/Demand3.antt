@@ -1,16 +1,14 @@
 -- Demand 3: in a chassis where the check finds nothing, from the host and from every device port a packet comes to the same end, in
 -- at most 32 crossings, and no place on the way has two holders; except that a device port that itself claims the target refuses
 -- its own device.
-use Prim.Native.Nat.{ℕ, _<_, _≤_, _^_}
+use Prim.Native.Nat.{ℕ, _≤_}
 use mathlib.Core.Bool.{true, false}
 use mathlib.Core.List.{List, []}
-use mathlib.Core.Path.{_≡_, subst, sym}
-use native.Mathlib.Omega.{arith}
+use mathlib.Core.Path.{_≡_, subst}
 use native.Mathlib.Nat.{le-trans}
 use lib.ListN.{length}
 use Rattle.ids.specs.declared.PortNo.{PortNo}
 use Rattle.ids.specs.declared.Target.{Target}
-use Rattle.ids.specs.declared.Target.the-variants.{Id, Addr}
 use Rattle.chassis.specs.declared.End.{End}
 use Rattle.chassis.specs.declared.End.the-variants.{Unsupported}
 use Rattle.chassis.specs.declared.Holders.the-variants.{Both}
@@ -20,22 +18,13 @@ use Rattle.chassis.specs.declared.Whereabouts.the-variants.{Root, Into, 
 use Rattle.chassis.specs.Chassis.{Chassis, holds, lowestAt}
 use Rattle.chassis.specs.Tree.{root, isDevicePort}
 use Rattle.chassis.specs.Walk.{Walk}
+use Rattle.chassis.proofs.Sound.{InRange, Sound}
 use Rattle.chassis.proofs.Tree.{Sane}
-use Rattle.chassis.proofs.Steps.{left, Within}
-use Rattle.chassis.proofs.Walks.{Arrival, walk-one, walk-exists, walk-short, left-most}
+use Rattle.chassis.proofs.Steps.{left-most, Within}
+use Rattle.chassis.proofs.Walks.{walk-one, walk-exists, walk-short}
 use Rattle.chassis.proofs.Ways.{Came}
 use Rattle.chassis.proofs.Clean.{Clean, never-two}
-use Rattle.chassis.proofs.Homeward.{FromHost, same-end, own-device-refused, device-port-below}
-
--- the targets that there are: all 65,536 IDs and all 2^64 addresses
-abbrev pub InRange : Target → Type 0
-InRange (Id rid) = rid .0 < 2 ^ 16
-InRange (Addr a) = a < 2 ^ 64
-
--- the tree keeps its rules, and no target is shared or astray
-pub record Sound (c : Chassis) : Type 0 where
-  pub sane : Sane (c .tree)
-  pub clean : (t : Target) → InRange t → Clean c t
+use Rattle.chassis.proofs.Homeward.{same-end, own-device-refused, device-port-below}
 
 -- the place where a packet is
 abbrev pub placeOf : Whereabouts → ℕ
@@ -62,7 +51,8 @@ pub record OneEnd (c : Chassis) (t : Target) : Type 0 where
   pub end : End
   pub from-host : Comes c t Root end
   pub from-device : (d : PortNo) → isDevicePort (c .tree) (d .0) ≡ true → c .claims (d .0) t ≡ false → Comes c t (From d) end
-  pub own-device : (d : PortNo) → isDevicePort (c .tree) (d .0) ≡ true → c .claims (d .0) t ≡ true → Walk c (Plain t) (From d) [] (Unsupported d)
+  pub own-device : (d : PortNo) → isDevicePort (c .tree) (d .0) ≡ true → c .claims (d .0) t ≡ true
+      → Walk c (Plain t) (From d) [] (Unsupported d)
 
 module _ (c : Chassis) (t : Target) (sane : Sane (c .tree)) (clean : Clean c t) where
   comes : {w : Whereabouts} {e : End} (path : List PortNo) → Within c w → Walk c (Plain t) w path e → Comes c t w e
@@ -70,11 +60,12 @@ module _ (c : Chassis) (t : Target) (sane : Sane (c .tree)) (clean : Clean c t) 
       record {
         path = path;
         walk = k;
-        short = le-trans (walk-short c (Plain t) sane l k) (left-most c (Plain t) sane w);
+        short = le-trans (walk-short c (Plain t) sane l k) (left-most c w);
         no-two-holders = λ way v came. never-two c t clean (placeOf v);
       }
 
-  from-device-too : (e : End) (path : List PortNo) → Walk c (Plain t) Root path e → (d : PortNo) → isDevicePort (c .tree) (d .0) ≡ true → c .claims (d .0) t ≡ false → Comes c t (From d) e
+  from-device-too : (e : End) (path : List PortNo) → Walk c (Plain t) Root path e → (d : PortNo)
+      → isDevicePort (c .tree) (d .0) ≡ true → c .claims (d .0) t ≡ false → Comes c t (From d) e
   from-device-too e path k d device unclaimed =
       let below = device-port-below c (d .0) device in
       let own = walk-exists c (Plain t) sane (From d) below in

@@ -2,8 +2,8 @@
 use Prim.Native.Nat.{ℕ, zero, suc, _+_, _<_, _≤_}
 use mathlib.Core.Bool.{Bool, true, false, cond}
 use mathlib.Core.Logic.{_↔_}
-use mathlib.Core.Path.{_≡_, refl, sym, ap, subst}
-use native.Mathlib.Nat.{le-antisymm, add-zero}
+use mathlib.Core.Path.{_≡_, refl, ap, subst}
+use native.Mathlib.Nat.{le-antisymm}
 use native.Mathlib.Decide.{ℕ-discrete, decLt}
 use native.Mathlib.Omega.{arith}
 use Rattle.ids.specs.declared.Target.{Target}
@@ -28,7 +28,8 @@ Tells test lo hi (At n) = Least test lo hi n
 Tells test lo hi Nothing = (i : ℕ) → lo ≤ i → i < hi → test i ≡ false
 
 module _ (test : ℕ → Bool) where
-  from-suc : (lo hi : ℕ) → test lo ≡ false → ((i : ℕ) → suc lo ≤ i → i < hi → test i ≡ false) → (i : ℕ) → lo ≤ i → i < hi → test i ≡ false
+  from-suc : (lo hi : ℕ) → test lo ≡ false → ((i : ℕ) → suc lo ≤ i → i < hi → test i ≡ false) → (i : ℕ) → lo ≤ i → i < hi
+      → test i ≡ false
   from-suc lo hi here above i from below = go (ℕ-discrete i lo)
     where
       go : Dec (i ≡ lo) → test i ≡ false
@@ -45,7 +46,8 @@ module _ (test : ℕ → Bool) where
   firstOf-tells zero lo hi e = λ i from below. absurd (omega arith)
   firstOf-tells (suc count) lo hi e = go (test lo) refl (firstOf-tells count (suc lo) hi (omega arith))
     where
-      go : (b : Bool) → test lo ≡ b → Tells test (suc lo) hi (firstOf test (suc lo) count) → Tells test lo hi (cond b (At lo) (firstOf test (suc lo) count))
+      go : (b : Bool) → test lo ≡ b → Tells test (suc lo) hi (firstOf test (suc lo) count)
+          → Tells test lo hi (cond b (At lo) (firstOf test (suc lo) count))
       go true here rest =
           record { from = omega arith; below = omega arith; passes = here; none-lower = λ i from below. absurd (omega arith) }
       go false here rest = tells-more lo hi (firstOf test (suc lo) count) here rest
@@ -76,6 +78,7 @@ module _ (test : ℕ → Bool) where
 
 -- the least target of a space is found exactly if it is one of the space's, passes, and none lower does; none is found exactly
 -- if none of the space's passes
-pub leastTarget-is : (test : Target → Bool) (space : Space) (found : Found) → (leastTarget test space ≡ found) ↔ Tells (λ (n : ℕ). test (targetIn space n)) 0 (spaceSize space) found
+pub leastTarget-is : (test : Target → Bool) (space : Space) (found : Found)
+    → (leastTarget test space ≡ found) ↔ Tells (λ (n : ℕ). test (targetIn space n)) 0 (spaceSize space) found
 unfolding testIn
 leastTarget-is test space found = firstIn-is (testIn test space) 0 (spaceSize space) found (omega arith)

@@ -7,5 +7,6 @@ pub mod CheckLaws
 pub mod LeastTarget
 pub mod Clean
 pub mod Ways
+pub mod Sound
 pub mod Homeward
 pub mod Demand3

@@ -1,18 +1,16 @@
 -- What a search among the numbers below n has found: whether any passes, and the two lowest that pass.
 use Prim.Native.Nat.{ℕ, zero, suc, _<_, _≤_}
-use mathlib.Core.Bool.{Bool, true, false, _&&_, _||_, or-true}
+use mathlib.Core.Bool.{Bool, true, false, _||_}
 use mathlib.Core.Logic.{_↔_, ⊎-elim}
-use mathlib.Core.Path.{_≡_, refl, sym, _∙_, ap, ap₂, subst}
+use mathlib.Core.Path.{_≡_, refl, sym, ap, ap₂, subst}
 use native.Mathlib.Nat.{eq-or-lt-of-le, le-of-suc-le-suc, not-suc-le-zero, le-antisymm, le-trans}
-use native.Mathlib.Decide.{ℕ-discrete, decLt}
+use native.Mathlib.Decide.{decLt}
 use native.Mathlib.Omega.{arith}
-use lib.Dec.{eqb}
 use borrow.Author.Tests.{eqb-true, eq-eqb}
-use Rattle.ids.specs.declared.PortNo.{PortNo}
 use Rattle.chassis.specs.declared.Holders.{Holders}
 use Rattle.chassis.specs.declared.Holders.the-variants.{Nobody, Only, Both}
 use Rattle.chassis.specs.Chassis.{Chassis, portNo, withPort, lowestTwo, passesAt, lowestAt}
-use Rattle.chassis.specs.Tree.{Tree, standsAt, anyBelow}
+use Rattle.chassis.specs.Tree.{standsAt, anyBelow}
 use Rattle.chassis.proofs.Bools.{never-both-values, and-true-parts, or-false-parts}
 
 -- a number below n passes
@@ -148,7 +146,8 @@ module _ (test : ℕ → Bool) where
   )
 
 -- a port passes at a place exactly if it stands there and passes
-pub passesAt-true : (c : Chassis) (place : ℕ) (test : ℕ → Bool) (p : ℕ) → (passesAt c place test p ≡ true) ↔ ((c .tree .parent p ≡ place) × (test p ≡ true))
+pub passesAt-true : (c : Chassis) (place : ℕ) (test : ℕ → Bool) (p : ℕ)
+    → (passesAt c place test p ≡ true) ↔ ((c .tree .parent p ≡ place) × (test p ≡ true))
 unfolding passesAt
 passesAt-true c place test p = (
   λ e. let parts = and-true-parts (standsAt (c .tree) place p) (test p) e in (eqb-true _ _ (parts .0), parts .1),
@@ -156,11 +155,13 @@ passesAt-true c place test p = (
 )
 
 -- what the lowest ports at a place are: each answer is given exactly if what it says is so
-pub lowestAt-is : (c : Chassis) (place : ℕ) (test : ℕ → Bool) (found : Holders) → (lowestAt c place test ≡ found) ↔ Says (passesAt c place test) (c .tree .count) found
+pub lowestAt-is : (c : Chassis) (place : ℕ) (test : ℕ → Bool) (found : Holders)
+    → (lowestAt c place test ≡ found) ↔ Says (passesAt c place test) (c .tree .count) found
 lowestAt-is c place test = lowestTwo-is (passesAt c place test) (c .tree .count)
 
 -- nobody is found at a place where no port passes
-pub nobody-at : (c : Chassis) (place : ℕ) (test : ℕ → Bool) → ((p : ℕ) → p < c .tree .count → c .tree .parent p ≡ place → test p ≡ true → ⊥) → lowestAt c place test ≡ Nobody
+pub nobody-at : (c : Chassis) (place : ℕ) (test : ℕ → Bool)
+    → ((p : ℕ) → p < c .tree .count → c .tree .parent p ≡ place → test p ≡ true → ⊥) → lowestAt c place test ≡ Nobody
 nobody-at c place test none = lowestAt-is c place test Nobody .1 (λ i l. go i l (passesAt c place test i) refl)
   where
     go : (i : ℕ) → i < c .tree .count → (b : Bool) → passesAt c place test i ≡ b → passesAt c place test i ≡ false

@@ -1,14 +1,13 @@
 -- Every step of a packet stays among the ports and brings it nearer to its end.
-use Prim.Native.Nat.{ℕ, zero, suc, _+_, _-_, _<_, _≤_}
+use Prim.Native.Nat.{ℕ, suc, _+_, _-_, _<_, _≤_}
 use mathlib.Core.Bool.{Bool, true, false, cond}
-use mathlib.Core.Path.{_≡_, refl, sym, _∙_, ap, subst}
-use native.Mathlib.Nat.{le-trans}
+use mathlib.Core.Path.{_≡_, refl, _∙_, ap, subst}
 use native.Mathlib.Omega.{arith}
 use lib.Dec.{eqb}
-use borrow.Author.Tests.{eqb-true, eqb-false}
+use borrow.Author.Tests.{eqb-false}
 use Rattle.ids.specs.declared.PortNo.{PortNo}
 use Rattle.ids.specs.declared.Target.{Target}
-use Rattle.ids.specs.declared.Target.the-variants.{Id, Addr}
+use Rattle.ids.specs.declared.Target.the-variants.{Id}
 use Rattle.chassis.specs.declared.Conversion.{Conversion}
 use Rattle.chassis.specs.declared.Conversion.the-variants.{NotClaimed, Type0 as AsType0, Type1 as AsType1, Unsupported as Refuses}
 use Rattle.chassis.specs.declared.End.{End}
@@ -22,18 +21,25 @@ use Rattle.chassis.specs.declared.Step.the-variants.{Stop, Cross}
 use Rattle.chassis.specs.declared.Whereabouts.{Whereabouts}
 use Rattle.chassis.specs.declared.Whereabouts.the-variants.{Root, Into, From, Type0, Type1}
 use Rattle.chassis.specs.Chassis.{Chassis, portNo, isOwn, holds, passesAt, lowestAt}
-use Rattle.chassis.specs.Tree.{root, rootPort, isDevicePort}
-use Rattle.chassis.specs.Walk.{targetOf, functionNumber, decided, decides, downward, byHolders, soleHolder, atPlace, deviceOr, upTo, upward, fromBelow, underType0, underType1, next}
-use Rattle.chassis.proofs.Ports.{Says, SoleBelow, LowestTwoBelow, lowestTwo-says, passesAt-true}
-use Rattle.chassis.proofs.Tree.{Sane, depth, depth-root, depth-most, depth-parent, root-port-parent, other-parent}
+use Rattle.chassis.specs.Tree.{root, isDevicePort}
+use Rattle.chassis.specs.Walk.{targetOf, decided, decides, downward, byHolders, soleHolder, deviceOr, upTo, upward, fromBelow, underType0, underType1, next}
+use Rattle.chassis.proofs.Ports.{Says, SoleBelow, lowestTwo-says, passesAt-true}
+use Rattle.chassis.proofs.Tree.{Sane, depth, depth-most, depth-parent, root-port-parent, other-parent}
 
--- how many crossings are left at most
+-- how many crossings are left at most, and never more than 32
 abbrev pub left : Chassis → Whereabouts → ℕ
 left c Root = 16
 left c (Into q) = 16 - depth (c .tree) (q .0)
 left c (From q) = 16 + depth (c .tree) (q .0)
 left c (Type0 q) = 16 - depth (c .tree) (q .0)
 left c (Type1 q) = 16 - depth (c .tree) (q .0)
+
+pub left-most : (c : Chassis) (w : Whereabouts) → left c w ≤ 32
+left-most c Root = omega arith
+left-most c (Into q) = omega arith
+left-most c (From q) = omega (arith, depth-most (c .tree) (q .0))
+left-most c (Type0 q) = omega arith
+left-most c (Type1 q) = omega arith
 
 abbrev pub IsPort : Chassis → PortNo → Type 0
 IsPort c p = p .0 < c .tree .count
@@ -65,7 +71,9 @@ Goes c most (Stop e) = NamesPorts c e
 Goes c most (Cross p v) = Nearer c most p v
 
 module _ (c : Chassis) (most : ℕ) where
-  byHolders-goes : (test : ℕ → Bool) (found : Holders) (sole : PortNo → Step) (none : Step) → Says test (c .tree .count) found → ((p : PortNo) → SoleBelow test (c .tree .count) (p .0) → Goes c most (sole p)) → Goes c most none → Goes c most (byHolders found sole none)
+  byHolders-goes : (test : ℕ → Bool) (found : Holders) (sole : PortNo → Step) (none : Step) → Says test (c .tree .count) found
+      → ((p : PortNo) → SoleBelow test (c .tree .count) (p .0) → Goes c most (sole p)) → Goes c most none
+      → Goes c most (byHolders found sole none)
   unfolding byHolders
   byHolders-goes test Nobody sole none says one nobody = nobody
   byHolders-goes test (Only p) sole none says one nobody = one p says
@@ -105,14 +113,17 @@ module _ (c : Chassis) (most : ℕ) where
 
 module _ (c : Chassis) (sane : Sane (c .tree)) where
   -- below a port at a place fewer crossings are left than are at the place
-  crossable : (most place : ℕ) (test : ℕ → Bool) (p : PortNo) → 16 - depth (c .tree) place ≤ most → SoleBelow (passesAt c place test) (c .tree .count) (p .0) → Crossable c most p
+  crossable : (most place : ℕ) (test : ℕ → Bool) (p : PortNo) → 16 - depth (c .tree) place ≤ most
+      → SoleBelow (passesAt c place test) (c .tree .count) (p .0) → Crossable c most p
   crossable most place test p room sole =
       let here = passesAt-true c place test (p .0) .0 (sole .passes) .0 in
       let deeper : depth (c .tree) (p .0) ≡ suc (depth (c .tree) place) = depth-parent (c .tree) sane (p .0) (sole .below) ∙ ap (λ (q : ℕ). suc (depth (c .tree) q)) here in
       (sole .below, omega (arith, depth-most (c .tree) (p .0)))
 
   -- a search at a place, and a step of whoever is found alone
-  atPlace-goes : (most place : ℕ) (test : ℕ → Bool) (sole : PortNo → Step) (none : Step) → 16 - depth (c .tree) place ≤ most → ((p : PortNo) → Crossable c most p → Goes c most (sole p)) → Goes c most none → Goes c most (byHolders (lowestAt c place test) sole none)
+  atPlace-goes : (most place : ℕ) (test : ℕ → Bool) (sole : PortNo → Step) (none : Step) → 16 - depth (c .tree) place ≤ most
+      → ((p : PortNo) → Crossable c most p → Goes c most (sole p)) → Goes c most none
+      → Goes c most (byHolders (lowestAt c place test) sole none)
   atPlace-goes most place test sole none room one nobody =
       byHolders-goes c most (passesAt c place test) (lowestAt c place test) sole none
       (lowestTwo-says (passesAt c place test) (c .tree .count))
@@ -123,7 +134,8 @@ module _ (c : Chassis) (sane : Sane (c .tree)) where
   unfolding upTo
   upTo-goes q l = go (eqb (c .tree .parent (q .0)) root) refl
     where
-      go : (b : Bool) → eqb (c .tree .parent (q .0)) root ≡ b → Nearer c (16 + depth (c .tree) (q .0)) q (cond b Root (From (portNo (c .tree .parent (q .0)))))
+      go : (b : Bool) → eqb (c .tree .parent (q .0)) root ≡ b
+          → Nearer c (16 + depth (c .tree) (q .0)) q (cond b Root (From (portNo (c .tree .parent (q .0)))))
       go true e = record { crossed = l; within = tt; fewer = omega (arith, depth-parent (c .tree) sane (q .0) l) }
       go false e = record { crossed = l; within = omega (arith, other-parent (c .tree) sane (q .0) l (λ k. eqb-false _ _ e (root-port-parent (c .tree) sane (q .0) l k))); fewer = omega (arith, depth-parent (c .tree) sane (q .0) l) }
 
@@ -131,7 +143,8 @@ module _ (c : Chassis) (sane : Sane (c .tree)) where
   unfolding upward
   upward-goes t q l = go (c .claims (q .0) t)
     where
-      go : (b : Bool) → Goes c (16 + depth (c .tree) (q .0)) (cond b (Stop (Unsupported q)) (Cross q (upTo (c .tree .parent (q .0)))))
+      go : (b : Bool)
+          → Goes c (16 + depth (c .tree) (q .0)) (cond b (Stop (Unsupported q)) (Cross q (upTo (c .tree .parent (q .0)))))
       go true = l
       go false = upTo-goes q l
 
@@ -150,7 +163,8 @@ module _ (c : Chassis) (sane : Sane (c .tree)) where
   next-goes packet (Type1 q) l = atPlace-goes (left c (Into q)) (q .0) (λ p. c .claims p (targetOf packet)) (decides c (targetOf packet)) _ (omega arith) (λ p h. decided-goes c _ p _ h) l
 
   -- a crossing crosses a port that there is, stays within, and leaves fewer crossings
-  pub crossing-goes : (packet : Packet) (w v : Whereabouts) (p : PortNo) → Within c w → next c packet w ≡ Cross p v → Nearer c (left c w) p v
+  pub crossing-goes : (packet : Packet) (w v : Whereabouts) (p : PortNo) → Within c w → next c packet w ≡ Cross p v
+      → Nearer c (left c w) p v
   crossing-goes packet w v p l e = subst (Goes c (left c w)) e (next-goes packet w l)
 
   -- an end names ports that there are

@@ -1,15 +1,15 @@
 -- A tree that keeps the rules of kinds, parents and chains: where the parent of a port is, and how deep a port lies.
 use Prim.Native.Nat.{ℕ, zero, suc, _<_, _≤_}
-use mathlib.Core.Bool.{Bool, true, false, not, cond}
+use mathlib.Core.Bool.{Bool, true, false, cond}
 use mathlib.Core.Logic.{_↔_}
 use mathlib.Core.Path.{_≡_, refl, sym, _∙_, ap}
 use native.Mathlib.Nat.{le-refl, not-suc-le-zero}
 use native.Mathlib.Decide.{ℕ-discrete}
 use native.Mathlib.Omega.{arith}
-use lib.Dec.{eqb, ltb}
-use borrow.Author.Tests.{eqb-true, eqb-false, eq-eqb, ne-eqb, ltb-true, not-false}
+use lib.Dec.{eqb}
+use borrow.Author.Tests.{eqb-true, eq-eqb, ne-eqb, ltb-true, not-false}
 use Rattle.chassis.specs.Tree.{Tree, rootPort, root, treeBroken, above, chainTooLong}
-use Rattle.chassis.proofs.Bools.{never-both-values, or-false-parts}
+use Rattle.chassis.proofs.Bools.{or-false-parts}
 
 -- no port breaks number 6 or 7, and there are no more than number 3 allows, so that 255 is no port
 pub record Sane (tree : Tree) : Type 0 where
@@ -41,7 +41,8 @@ module _ (tree : Tree) where
   climbs-settled zero p e = rw e
   climbs-settled (suc k) p e = go (eqb p root) refl (climbs-settled k (tree .parent p))
     where
-      go : (b : Bool) → eqb p root ≡ b → (above tree k (tree .parent p) ≡ root → climbs tree (suc k) (tree .parent p) ≡ climbs tree k (tree .parent p))
+      go : (b : Bool) → eqb p root ≡ b
+          → (above tree k (tree .parent p) ≡ root → climbs tree (suc k) (tree .parent p) ≡ climbs tree k (tree .parent p))
           → climbs tree (suc (suc k)) p ≡ climbs tree (suc k) p
       go true at-root ih = rw at-root
       go false elsewhere ih = rw elsewhere (ap suc (ih (sym (above-parent k p elsewhere) ∙ e)))
