@@ -74,7 +74,8 @@ module _ (c : Chassis) (t : Target) where
       go false other told =
           let parts = and-true-parts (standsAt (c .tree) (c .tree .parent q) p) (holds c t p && holds c t q) told in
           let both = and-true-parts (holds c t p) (holds c t q) (parts .1) in
-          between-two (record { distinct = eqb-false _ _ other; one-place = eqb-true _ _ (parts .0); first-holds = both .0; second-holds = both .1 })
+          between-two
+          (record { distinct = eqb-false _ _ other; one-place = eqb-true _ _ (parts .0); first-holds = both .0; second-holds = both .1 })
 
   clash-shown : (p q : ℕ) → Clash c t p q → clash c t p q ≡ true
   unfolding clash
@@ -91,13 +92,20 @@ module _ (c : Chassis) (t : Target) where
   shared-told e =
       let p = anyBelow-true (clashesWith c t) (c .tree .count) .0 e in
       let q = anyBelow-true (clash c t (p .number)) (c .tree .count) .0 (p .passes) in
-      record { first = p .number; second = q .number; first-below = p .below; second-below = q .below; clashing = clash-told (p .number) (q .number) (q .passes) }
+      record {
+        first = p .number;
+        second = q .number;
+        first-below = p .below;
+        second-below = q .below;
+        clashing = clash-told (p .number) (q .number) (q .passes);
+      }
 
   shared-shown : Clashing c t → shared c t ≡ true
   unfolding shared clashesWith
   shared-shown k =
       anyBelow-at (clashesWith c t) (c .tree .count) (k .first) (k .first-below)
-      (anyBelow-at (clash c t (k .first)) (c .tree .count) (k .second) (k .second-below) (clash-shown (k .first) (k .second) (k .clashing)))
+      (anyBelow-at (clash c t (k .first)) (c .tree .count) (k .second) (k .second-below)
+      (clash-shown (k .first) (k .second) (k .clashing)))
 
   -- a target is shared exactly if two ports at one place hold it, or a port claims its own ID
   pub shared-true : (shared c t ≡ true) ↔ Clashing c t

@@ -37,7 +37,8 @@ placeOf (Type1 q) = q .0
 -- no place on the way from w has two holders
 abbrev pub NoTwoHolders : Chassis → Target → Whereabouts → Type 0
 NoTwoHolders c t w =
-    (path : List PortNo) (v : Whereabouts) → Came c (Plain t) w path v → (p q : PortNo) → lowestAt c (placeOf v) (holds c t) ≡ Both p q → ⊥
+    (path : List PortNo) (v : Whereabouts) → Came c (Plain t) w path v
+    → (p q : PortNo) → lowestAt c (placeOf v) (holds c t) ≡ Both p q → ⊥
 
 -- the packet comes from w to the end, in at most 32 crossings, and no place on the way has two holders
 pub record Comes (c : Chassis) (t : Target) (w : Whereabouts) (e : End) : Type 0 where

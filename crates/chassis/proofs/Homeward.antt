@@ -17,7 +17,7 @@ use Rattle.chassis.specs.declared.Step.the-variants.{Stop, Cross}
 use Rattle.chassis.specs.declared.Whereabouts.{Whereabouts}
 use Rattle.chassis.specs.declared.Whereabouts.the-variants.{Root, Into, From}
 use Rattle.chassis.specs.Chassis.{Chassis, portNo, holds, lowestAt}
-use Rattle.chassis.specs.Tree.{root, rootPort, upstream, standsAt, hasChildBelow, isDevicePort}
+use Rattle.chassis.specs.Tree.{root, rootPort, upstream, standsAt, isDevicePort}
 use Rattle.chassis.specs.Walk.{byHolders, soleHolder, downward, atPlace, deviceOr, upTo, upward, fromBelow, next, Walk, ends, goes}
 use Rattle.chassis.proofs.Bools.{never-both-values, and-true-parts}
 use Rattle.chassis.proofs.Ports.{NoneBelow, anyBelow-at, anyBelow-false, nobody-at}
@@ -37,9 +37,10 @@ device-port : (c : Chassis) (p : ℕ) → isDevicePort (c .tree) p ≡ true
     → (p < c .tree .count) × NoneBelow (standsAt (c .tree) p) (c .tree .count)
 unfolding isDevicePort
 device-port c p e =
-    let parts = and-true-parts (ltb p (c .tree .count) && not (eqb (c .tree .kind p) upstream)) (not (hasChildBelow (c .tree) (c .tree .count) p)) e in (
-      ltb-true _ _ (and-true-parts (ltb p (c .tree .count)) (not (eqb (c .tree .kind p) upstream)) (parts .0) .0),
-      anyBelow-false (standsAt (c .tree) p) (c .tree .count) .0 (not-true _ (parts .1)),
+    let childless = and-true-parts (ltb p (c .tree .count) && not (eqb (c .tree .kind p) upstream)) _ e in
+    let there = and-true-parts (ltb p (c .tree .count)) (not (eqb (c .tree .kind p) upstream)) (childless .0) in (
+      ltb-true _ _ (there .0),
+      anyBelow-false (standsAt (c .tree) p) (c .tree .count) .0 (not-true _ (childless .1)),
     )
 
 pub device-port-below : (c : Chassis) (p : ℕ) → isDevicePort (c .tree) p ≡ true → p < c .tree .count

@@ -87,6 +87,16 @@ module _ (test : ℕ → Bool) where
           let s = some-below n e in
           never-both-values (test (s .number)) (s .passes) (none (s .number) (s .below))
 
+  two-more : {n p q : ℕ} → LowestTwoBelow test n p q → LowestTwoBelow test (suc n) p q
+  two-more s =
+      record {
+        ordered = s .ordered;
+        below = omega arith;
+        first-passes = s .first-passes;
+        second-passes = s .second-passes;
+        only = s .only;
+      }
+
   says-more : (n : ℕ) (found : Holders) (b : Bool) → test n ≡ b → Says test n found → Says test (suc n) (withPort found n b)
   unfolding withPort
   says-more n Nobody false e s = below-suc n s e
@@ -96,10 +106,8 @@ module _ (test : ℕ → Bool) where
       record { below = omega arith; passes = s .passes; only = below-suc n (s .only) (λ t. never-both-values (test n) t e) }
   says-more n (Only p) true e s =
       record { ordered = s .below; below = omega arith; first-passes = s .passes; second-passes = e; only = s .only }
-  says-more n (Both p q) false e s =
-      record { ordered = s .ordered; below = omega arith; first-passes = s .first-passes; second-passes = s .second-passes; only = s .only }
-  says-more n (Both p q) true e s =
-      record { ordered = s .ordered; below = omega arith; first-passes = s .first-passes; second-passes = s .second-passes; only = s .only }
+  says-more n (Both p q) false e s = two-more s
+  says-more n (Both p q) true e s = two-more s
 
   -- the answer of the search for the two lowest is true
   pub lowestTwo-says : (n : ℕ) → Says test n (lowestTwo test n)

@@ -1,7 +1,7 @@
 -- Every step of a packet stays among the ports and brings it nearer to its end.
-use Prim.Native.Nat.{ℕ, suc, _+_, _-_, _<_, _≤_}
+use Prim.Native.Nat.{ℕ, _+_, _-_, _<_, _≤_}
 use mathlib.Core.Bool.{Bool, true, false, cond}
-use mathlib.Core.Path.{_≡_, refl, _∙_, ap, subst}
+use mathlib.Core.Path.{_≡_, refl, subst}
 use native.Mathlib.Omega.{arith}
 use lib.Dec.{eqb}
 use borrow.Author.Tests.{eqb-false}
@@ -24,7 +24,7 @@ use Rattle.chassis.specs.Chassis.{Chassis, portNo, isOwn, holds, passesA
 use Rattle.chassis.specs.Tree.{root, isDevicePort}
 use Rattle.chassis.specs.Walk.{targetOf, decided, decides, downward, byHolders, soleHolder, deviceOr, upTo, upward, fromBelow, underType0, underType1, next}
 use Rattle.chassis.proofs.Ports.{Says, SoleBelow, lowestTwo-says, passesAt-true}
-use Rattle.chassis.proofs.Tree.{Sane, depth, depth-most, depth-parent, root-port-parent, other-parent}
+use Rattle.chassis.proofs.Tree.{Sane, depth, depth-most, depth-parent, parent-lower}
 
 -- how many crossings are left at most, and never more than 32
 abbrev pub left : Chassis → Whereabouts → ℕ
@@ -117,7 +117,7 @@ module _ (c : Chassis) (sane : Sane (c .tree)) where
       → SoleBelow (passesAt c place test) (c .tree .count) (p .0) → Crossable c most p
   crossable most place test p room sole =
       let here = passesAt-true c place test (p .0) .0 (sole .passes) .0 in
-      let deeper : depth (c .tree) (p .0) ≡ suc (depth (c .tree) place) = depth-parent (c .tree) sane (p .0) (sole .below) ∙ ap (λ (q : ℕ). suc (depth (c .tree) q)) here in
+      let deeper = rw here at (depth-parent (c .tree) sane (p .0) (sole .below)) in
       (sole .below, omega (arith, depth-most (c .tree) (p .0)))
 
   -- a search at a place, and a step of whoever is found alone
@@ -137,7 +137,9 @@ module _ (c : Chassis) (sane : Sane (c .tree)) where
       go : (b : Bool) → eqb (c .tree .parent (q .0)) root ≡ b
           → Nearer c (16 + depth (c .tree) (q .0)) q (cond b Root (From (portNo (c .tree .parent (q .0)))))
       go true e = record { crossed = l; within = tt; fewer = omega (arith, depth-parent (c .tree) sane (q .0) l) }
-      go false e = record { crossed = l; within = omega (arith, other-parent (c .tree) sane (q .0) l (λ k. eqb-false _ _ e (root-port-parent (c .tree) sane (q .0) l k))); fewer = omega (arith, depth-parent (c .tree) sane (q .0) l) }
+      go false e =
+          let lower = parent-lower (c .tree) sane (q .0) l (eqb-false _ _ e) in
+          record { crossed = l; within = omega arith; fewer = omega (arith, depth-parent (c .tree) sane (q .0) l) }
 
   upward-goes : (t : Target) (q : PortNo) → IsPort c q → Goes c (16 + depth (c .tree) (q .0)) (upward c t q)
   unfolding upward
@@ -150,17 +152,25 @@ module _ (c : Chassis) (sane : Sane (c .tree)) where
 
   fromBelow-goes : (packet : Packet) (q : PortNo) → IsPort c q → Goes c (left c (From q)) (fromBelow c packet q)
   unfolding fromBelow
-  fromBelow-goes (Plain t) q l = atPlace-goes _ (q .0) (holds c t) (soleHolder c (Plain t)) _ (omega arith) (soleHolder-goes c _ (Plain t)) (upward-goes t q l)
+  fromBelow-goes (Plain t) q l =
+      atPlace-goes _ (q .0) (holds c t) (soleHolder c (Plain t)) _ (omega arith) (soleHolder-goes c _ (Plain t))
+      (upward-goes t q l)
   fromBelow-goes (Config rid) q l = l
 
   -- wherever the packet is
   pub next-goes : (packet : Packet) (w : Whereabouts) → Within c w → Goes c (left c w) (next c packet w)
   unfolding next underType0 underType1
-  next-goes packet Root l = atPlace-goes 16 root (holds c (targetOf packet)) (soleHolder c packet) (Stop Host) (omega arith) (soleHolder-goes c 16 packet) tt
-  next-goes packet (Into q) l = atPlace-goes (left c (Into q)) (q .0) (holds c (targetOf packet)) (soleHolder c packet) _ (omega arith) (soleHolder-goes c _ packet) (deviceOr-goes c _ q 0 l)
+  next-goes packet Root l =
+      atPlace-goes _ root (holds c (targetOf packet)) (soleHolder c packet) (Stop Host) (omega arith) (soleHolder-goes c _ packet) tt
+  next-goes packet (Into q) l =
+      atPlace-goes _ (q .0) (holds c (targetOf packet)) (soleHolder c packet) _ (omega arith) (soleHolder-goes c _ packet)
+      (deviceOr-goes c _ q 0 l)
   next-goes packet (From q) l = fromBelow-goes packet q l
-  next-goes packet (Type0 q) l = atPlace-goes (left c (Into q)) (q .0) (isOwn c (targetOf packet)) (λ p. Stop (Function p)) _ (omega arith) (λ p h. h .0) (deviceOr-goes c _ q _ l)
-  next-goes packet (Type1 q) l = atPlace-goes (left c (Into q)) (q .0) (λ p. c .claims p (targetOf packet)) (decides c (targetOf packet)) _ (omega arith) (λ p h. decided-goes c _ p _ h) l
+  next-goes packet (Type0 q) l =
+      atPlace-goes _ (q .0) (isOwn c (targetOf packet)) (λ p. Stop (Function p)) _ (omega arith) (λ p h. h .0) (deviceOr-goes c _ q _ l)
+  next-goes packet (Type1 q) l =
+      atPlace-goes _ (q .0) (λ p. c .claims p (targetOf packet)) (decides c (targetOf packet)) _ (omega arith)
+      (λ p h. decided-goes c _ p _ h) l
 
   -- a crossing crosses a port that there is, stays within, and leaves fewer crossings
   pub crossing-goes : (packet : Packet) (w v : Whereabouts) (p : PortNo) → Within c w → next c packet w ≡ Cross p v

@@ -99,6 +99,10 @@ module _ (tree : Tree) (sane : Sane tree) where
   pub depth-root-port : (p : ℕ) → p < tree .count → tree .kind p ≡ rootPort → depth tree p ≡ 1
   depth-root-port p l e = rw (depth-parent p l, root-port-parent p l e, depth-root tree)
 
+  -- a port whose parent is not the root has a lower port for a parent
+  pub parent-lower : (p : ℕ) → p < tree .count → (tree .parent p ≡ root → ⊥) → tree .parent p < p
+  parent-lower p l below = other-parent p l (λ k. below (root-port-parent p l k))
+
   up-to : (P : ℕ → Type 0)
       → ((p : ℕ) → p < tree .count → tree .kind p ≡ rootPort → P p)
       → ((p : ℕ) → p < tree .count → (tree .kind p ≡ rootPort → ⊥) → P (tree .parent p) → P p)

@@ -11,7 +11,6 @@ use Rattle.chassis.specs.declared.Packet.{Packet}
 use Rattle.chassis.specs.declared.Step.{Step}
 use Rattle.chassis.specs.declared.Step.the-variants.{Stop, Cross}
 use Rattle.chassis.specs.declared.Whereabouts.{Whereabouts}
-use Rattle.chassis.specs.declared.Whereabouts.the-variants.{Root, Into, From, Type0, Type1}
 use Rattle.chassis.specs.Chassis.{Chassis}
 use Rattle.chassis.specs.Walk.{next, Walk, ends, goes}
 use Rattle.chassis.proofs.Tree.{Sane}
