@@ -1,4 +1,4 @@
--- What the checks of 11 to 14 say: a target is shared or astray exactly if ports as the numbers describe are there.
+-- What the checks of 11 to 15 say: a target is shared or astray, and an own ID lost, exactly if the ports are as those numbers describe.
 use Prim.Native.Nat.{ℕ, _<_}
 use mathlib.Core.Bool.{Bool, true, false, not, cond, _&&_}
 use mathlib.Core.Logic.{_↔_}
@@ -27,9 +27,6 @@ pub record OwnClaimed (c : Chassis) (t : Target) (p : ℕ) : Type 0 where
   pub own : isOwn c t p ≡ true
   pub claimed : c .claims p t ≡ true
 
-abbrev pub ownTarget : Chassis → ℕ → Target
-ownTarget c p = Id (record { 0 = c .ownId p })
-
 -- two ports clash: "a port with itself tried too"
 pub data Clash (c : Chassis) (t : Target) (p q : ℕ) : Type 0 where
   between-two : HeldByTwo c t p q → Clash c t p q
@@ -53,6 +50,9 @@ pub record SomeAstray (c : Chassis) (t : Target) : Type 0 where
   pub port : ℕ
   pub below : port < c .tree .count
   pub astray : Astray c t port
+
+abbrev pub ownTarget : Chassis → ℕ → Target
+ownTarget c p = Id (record { 0 = c .ownId p })
 
 -- "the own ID of a port of kind 1 or 2 is not both claimed by its parent and Type 0 there"
 pub record OwnIdLost (c : Chassis) (p : ℕ) : Type 0 where

@@ -53,16 +53,19 @@ pub record OneEnd (c : Chassis) (t : Target) : Type 0 where
   pub from-host : Comes c t Root end
   pub from-device : (d : PortNo) → isDevicePort (c .tree) (d .0) ≡ true → c .claims (d .0) t ≡ false → Comes c t (From d) end
   pub own-device : (d : PortNo) → isDevicePort (c .tree) (d .0) ≡ true → c .claims (d .0) t ≡ true
-      → Walk c (Plain t) (From d) [] (Unsupported d)
+      → Walk c (Plain t) (From d) [] (Unsupported d) × NoTwoHolders c t (From d)
 
 module _ (c : Chassis) (t : Target) (sane : Sane (c .tree)) (clean : Clean c t) where
+  no-two : (w : Whereabouts) → NoTwoHolders c t w
+  no-two w path v came = never-two c t clean (placeOf v)
+
   comes : {w : Whereabouts} {e : End} (path : List PortNo) → Within c w → Walk c (Plain t) w path e → Comes c t w e
   comes {w} path l k =
       record {
         path = path;
         walk = k;
         short = le-trans (walk-short c (Plain t) sane l k) (left-most c w);
-        no-two-holders = λ way v came. never-two c t clean (placeOf v);
+        no-two-holders = no-two w;
       }
 
   from-device-too : (e : End) (path : List PortNo) → Walk c (Plain t) Root path e → (d : PortNo)
@@ -81,7 +84,7 @@ module _ (c : Chassis) (t : Target) (sane : Sane (c .tree)) (clean : Clean c t) 
         end = host .end;
         from-host = comes (host .path) tt (host .walk);
         from-device = from-device-too (host .end) (host .path) (host .walk);
-        own-device = own-device-refused c t;
+        own-device = λ d device claimed. (own-device-refused c t d device claimed, no-two (From d));
       }
 
 -- where the check finds nothing, every packet for a target that there is comes to one end

@@ -64,6 +64,12 @@ same-walk : {c : Chassis} {t : Target} {w v : Whereabouts} {path : List PortNo} 
 same-walk same (ends s) = ends (same ∙ s)
 same-walk same (goes s k) = goes (same ∙ s) k
 
+-- below a port with a child that claims the target it does not matter from where the packet came
+turns-alike : (c : Chassis) (t : Target) (q : PortNo) → isDevicePort (c .tree) (q .0) ≡ false → c .claims (q .0) t ≡ true
+    → next c (Plain t) (Into q) ≡ next c (Plain t) (From q)
+unfolding next fromBelow deviceOr upward
+turns-alike c t q no-device claims = rw (no-device, claims)
+
 -- the host's packet comes to this end
 pub record FromHost (c : Chassis) (t : Target) (e : End) : Type 0 where
   pub path : List PortNo
@@ -97,12 +103,6 @@ module _ (c : Chassis) (t : Target) (sane : Sane (c .tree)) (clean : Clean c t) 
   claimed-from-host : (q : ℕ) → q < c .tree .count → ClaimedFromHost q
   claimed-from-host = by-parents (c .tree) sane ClaimedFromHost claimed-at-root claimed-below
 
-  -- below a port with a child that claims the target it does not matter from where the packet came
-  turns-alike : (q : PortNo) → isDevicePort (c .tree) (q .0) ≡ false → c .claims (q .0) t ≡ true
-      → next c (Plain t) (Into q) ≡ next c (Plain t) (From q)
-  unfolding next fromBelow deviceOr upward
-  turns-alike q no-device claims = rw (no-device, claims)
-
   -- below a port that does not claim the target nobody holds it
   nobody-below : (q : PortNo) → q .0 < c .tree .count → c .claims (q .0) t ≡ false → lowestAt c (q .0) (holds c t) ≡ Nobody
   nobody-below q l unclaimed = nobody-at c (q .0) (holds c t) none
@@ -132,7 +132,7 @@ module _ (c : Chassis) (t : Target) (sane : Sane (c .tree)) (clean : Clean c t) 
   turned-or-above q l above no-device path e k = go (c .claims q t) refl
     where
       go : (b : Bool) → c .claims q t ≡ b → FromHost c t e
-      go true claims = claimed-from-host q l claims path e (same-walk (turns-alike (portNo q) (no-device claims) claims) k)
+      go true claims = claimed-from-host q l claims path e (same-walk (turns-alike c t (portNo q) (no-device claims) claims) k)
       go false claims =
           let rest = walk-rest (goes-up (portNo q) l claims) k in
           above (rest .0) e (rest .1)

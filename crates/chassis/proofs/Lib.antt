@@ -6,6 +6,7 @@ pub mod Walks
 pub mod CheckLaws
 pub mod LeastTarget
 pub mod Clean
+pub mod Starts
 pub mod Ways
 pub mod Sound
 pub mod Homeward

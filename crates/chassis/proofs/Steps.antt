@@ -60,12 +60,13 @@ NamesPorts c Host = Unit {0}
 NamesPorts c (Unsupported q) = IsPort c q
 NamesPorts c (Doubled p q) = IsPort c p × IsPort c q
 
--- a step that ends at ports that there are, or crosses one and has fewer than `most` crossings left
+-- a crossing of a port that there is, after which fewer than `most` crossings are left
 pub record Nearer (c : Chassis) (most : ℕ) (p : PortNo) (v : Whereabouts) : Type 0 where
   pub crossed : IsPort c p
   pub within : Within c v
   pub fewer : left c v < most
 
+-- a step that is such a crossing, or an end that names ports that there are
 abbrev pub Goes : Chassis → ℕ → Step → Type 0
 Goes c most (Stop e) = NamesPorts c e
 Goes c most (Cross p v) = Nearer c most p v

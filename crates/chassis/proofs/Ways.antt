@@ -14,7 +14,7 @@ use Rattle.chassis.specs.Walk.{next, Walk, ends, goes}
 use Rattle.chassis.proofs.Tree.{Sane}
 use Rattle.chassis.proofs.Steps.{left, left-most, Within, crossing-goes}
 
--- a packet that started at w has crossed the ports of the path, in order, and is now at the last of the three
+-- `Came c packet w path v`: a packet that started at w has crossed the ports of the path, in order, and is now at v
 pub data Came (c : Chassis) (packet : Packet) (w : Whereabouts) : List PortNo → Whereabouts → Type 0 where
   starts : Came c packet w [] w
   crosses : {v u : Whereabouts} {p : PortNo} {path : List PortNo} → Came c packet w path v → next c packet v ≡ Cross p u
