@@ -25,7 +25,9 @@ pub enum Space {
 
 impl Rid {
     pub const BUS_BITS: u16 = 8;
+
     pub const DEVICE_BITS: u16 = 5;
+
     pub const FUNCTION_BITS: u16 = 3;
 
     pub fn bus(self) -> u8

@@ -15,13 +15,7 @@ pub fn sooner(a: Found, b: Found) -> Found
         Found::Nothing => b,
         Found::At(i) => match b {
             Found::Nothing => Found::At(i),
-            Found::At(j) => {
-                if i <= j {
-                    Found::At(i)
-                } else {
-                    Found::At(j)
-                }
-            }
+            Found::At(j) => { if i <= j { Found::At(i) } else { Found::At(j) } }
         },
     }
 }
