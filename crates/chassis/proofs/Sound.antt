@@ -26,8 +26,8 @@ pub record Sound (c : Chassis) : Type 0 where
 -- where no least target is found in either space, no target passes
 pub none-found : (test : Target → Bool) → ((space : Space) → leastTarget test space ≡ Nothing) → (t : Target) → InRange t
     → test t ≡ false
-none-found test none (Id rid) l = leastTarget-is test Ids Nothing .0 (none Ids) (rid .0) zero-le l
-none-found test none (Addr a) l = leastTarget-is test Addresses Nothing .0 (none Addresses) a zero-le l
+none-found test none (Id rid) l = leastTarget-is test Ids Nothing .0 (none Ids) .none (rid .0) zero-le l
+none-found test none (Addr a) l = leastTarget-is test Addresses Nothing .0 (none Addresses) .none a zero-le l
 
 -- a chassis that passes 3, 6 and 7 and 11 to 14 is sound
 pub sound-from-check : (c : Chassis) → Sane (c .tree)

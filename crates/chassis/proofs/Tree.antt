@@ -8,7 +8,7 @@ use native.Mathlib.Decide.{ℕ-discrete}
 use native.Mathlib.Omega.{arith}
 use lib.Dec.{eqb}
 use borrow.Author.Tests.{eqb-true, eq-eqb, ne-eqb, ltb-true, not-false}
-use Rattle.chassis.specs.Tree.{Tree, rootPort, root, treeBroken, above, chainTooLong}
+use Rattle.chassis.specs.Tree.{Tree, rootPort, root, treeBroken, oneAbove, above, chainTooLong}
 use Rattle.chassis.proofs.Bools.{or-false-parts}
 
 -- no port breaks number 6 or 7, and there are no more than number 3 allows, so that 255 is no port
@@ -32,7 +32,7 @@ depth-root tree = refl
 
 module _ (tree : Tree) where
   above-parent : (k p : ℕ) → eqb p root ≡ false → above tree (suc k) p ≡ above tree k (tree .parent p)
-  unfolding above
+  unfolding above oneAbove
   above-parent zero p e = rw e
   above-parent (suc k) p e = rw (above-parent k p e)
 
