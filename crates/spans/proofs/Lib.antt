@@ -1,1 +1,3 @@
 pub mod OfRanges
+pub mod OfGrids
+pub mod OfReaches

@@ -71,7 +71,8 @@ module _ (r : Range) where
           from = omega arith;
           below = k;
           holds = out-above (r .hi + 1) (omega arith);
-          first = record { none = λ t m n. out-inside t (omega arith) (omega arith) } })
+          first = record { none = λ t m n. out-inside t (omega arith) (omega arith) };
+        })
 
     pub out-never : r .lo ≤ from → r .hi ≡ 2 ^ 64 - 1 → Nothing ≡ firstIn (outOf r) from (2 ^ 64)
     out-never l e = none-is (record { none = λ t m n. out-inside t (omega arith) (omega arith) })

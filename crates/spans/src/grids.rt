@@ -66,7 +66,13 @@ fn clip(found: Found, hi: u64) -> Found
     ensures { λ r. ⌜ r ≡ clipped found hi ⌝ }
 {
     match found {
-        Found::At(t) => { if t <= hi { Found::At(t) } else { Found::Nothing } }
+        Found::At(t) => {
+            if t <= hi {
+                Found::At(t)
+            } else {
+                Found::Nothing
+            }
+        }
         Found::Nothing => Found::Nothing,
     }
 }
@@ -77,7 +83,10 @@ pub fn next_hit_in(v: &[u8], g: Grid, from: u64) -> Found
     ensures { λ r. ⌜ r ≡ firstIn (hitIn (now (v .entry)) g) from (2 ^ 64) ⌝ }
 {
     let within = g.within;
-    clip(next_hit(v, g.settings, ranges::later(from, within.lo)), within.hi)
+    clip(
+        next_hit(v, g.settings, ranges::later(from, within.lo)),
+        within.hi,
+    )
 }
 
 // The next target out of the range, or missed.
@@ -85,7 +94,10 @@ pub fn next_miss_in(v: &[u8], g: Grid, from: u64) -> Found
     requires { ⌜ g .settings .scale < 64 ⌝ }
     ensures { λ r. ⌜ r ≡ firstIn (missedIn (now (v .entry)) g) from (2 ^ 64) ⌝ }
 {
-    least::sooner(ranges::next_out(g.within, from), next_miss(v, g.settings, from))
+    least::sooner(
+        ranges::next_out(g.within, from),
+        next_miss(v, g.settings, from),
+    )
 }
 
 // The same, from what was found before.

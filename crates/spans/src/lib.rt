@@ -1,8 +1,9 @@
 // What one port reaches in one space, IDs or addresses, and the search from next to next. No step goes target by target.
-pub mod ranges;
 pub mod grids;
-use crate::ranges::Range;
+pub mod ranges;
+
 use crate::grids::Grid;
+use crate::ranges::Range;
 use least::Found;
 ghost use mathlib.Core.Path.{_≡_};
 ghost use Prim.Native.Nat.{_<_, _^_};
@@ -22,7 +23,8 @@ pub fn reached(d: Reach, v: &[u8], w: &[u8], t: u64) -> bool
     requires { ⌜ fits d ⌝ }
     ensures { λ r. ⌜ r ≡ reaches d (now (v .entry)) (now (w .entry)) t ⌝ }
 {
-    (ranges::contains(d.first, t) | ranges::contains(d.second, t)) | (grids::hit_in(v, d.one, t) | grids::hit_in(w, d.other, t))
+    (ranges::contains(d.first, t) | ranges::contains(d.second, t))
+        | (grids::hit_in(v, d.one, t) | grids::hit_in(w, d.other, t))
 }
 
 // The next target, from `from` on, that is reached.
@@ -30,8 +32,14 @@ pub fn next_reached(d: Reach, v: &[u8], w: &[u8], from: u64) -> Found
     requires { ⌜ fits d ⌝ }
     ensures { λ r. ⌜ r ≡ firstIn (reaches d (now (v .entry)) (now (w .entry))) from (2 ^ 64) ⌝ }
 {
-    let on_ranges = least::sooner(ranges::next_in(d.first, from), ranges::next_in(d.second, from));
-    let on_grids = least::sooner(grids::next_hit_in(v, d.one, from), grids::next_hit_in(w, d.other, from));
+    let on_ranges = least::sooner(
+        ranges::next_in(d.first, from),
+        ranges::next_in(d.second, from),
+    );
+    let on_grids = least::sooner(
+        grids::next_hit_in(v, d.one, from),
+        grids::next_hit_in(w, d.other, from),
+    );
     least::sooner(on_ranges, on_grids)
 }
 

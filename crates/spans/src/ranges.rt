@@ -29,7 +29,11 @@ pub fn next_in(r: Range, from: u64) -> Found
     ensures { λ x. ⌜ x ≡ firstIn (inRange r) from (2 ^ 64) ⌝ }
 {
     let t = later(from, r.lo);
-    if t <= r.hi { Found::At(t) } else { Found::Nothing }
+    if t <= r.hi {
+        Found::At(t)
+    } else {
+        Found::Nothing
+    }
 }
 
 // The next target out of a range.

@@ -1,3 +1,4 @@
+use Rattle.spans.proofs.OfReaches.{reach-first}
 use borrow.Author.Needs.{needs}
 use Rattle.spans.proofs.next_reached.Statement.{statement}
 use Rattle.spans.proofs.next_reached.Tie as tie
@@ -37,7 +38,16 @@ sooner-requires-3 c κs = search needs
 
 -- src/lib.rt:29:1
 returns : tie.Need-returns
-returns c = ?
+returns c = rw (
+  c .sooner3 .ensures,
+  c .before .sooner2 .ensures,
+  c .before .before .next-hit-in2 .ensures,
+  c .before .before .before .next-hit-in .ensures,
+  c .before .before .before .before .sooner .ensures,
+  c .before .before .before .before .before .next-in2 .ensures,
+  c .before .before .before .before .before .before .next-in .ensures,
+)
+    (reach-first _ _ _ _)
 
 pub next-reached-spec : {M : Type 1} → statement M
 next-reached-spec =

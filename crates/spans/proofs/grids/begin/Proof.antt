@@ -1,3 +1,7 @@
+use native.Mathlib.Omega.{arith}
+use borrow.Author.Tests.{lt-ltb, le-ltb}
+use Rattle.spans.specs.Grids.{beginsFrom}
+use Rattle.spans.proofs.OfGrids.{begins-below, shift-exact}
 use borrow.Author.Needs.{needs}
 use Rattle.spans.proofs.grids.begin.Statement.{statement}
 use Rattle.spans.proofs.grids.begin.Tie as tie
@@ -19,7 +23,8 @@ shr-last c = search needs
 
 -- src/grids.rt:33:9
 returns : tie.Need-returns
-returns c = ?
+unfolding beginsFrom
+returns c = simp (lt-ltb _ _ (c .if1 .taken))
 
 -- src/grids.rt:35:51
 cast-later : tie.Need-cast-later
@@ -31,7 +36,10 @@ shl-later c = search needs
 
 -- src/grids.rt:35:35
 add-later : tie.Need-add-later
-add-later c = ?
+add-later c = let a = c .before .before .before .before .before .args in
+    record {
+      fits = rw (shift-exact (a .s) (a .i) (omega arith) (c .before .before .if1 .left)) (begins-below (a .s) (a .i) (omega arith) (c .before .before .if1 .left));
+    }
 
 -- src/grids.rt:35:15
 later-requires : tie.Need-later-requires
@@ -39,7 +47,9 @@ later-requires c κs = search needs
 
 -- src/grids.rt:27:1
 returns-2 : tie.Need-returns-2
-returns-2 c = ?
+unfolding beginsFrom
+returns-2 c = let a = c .before .before .before .before .before .before .args in
+    rw (c .later .ensures, shift-exact (a .s) (a .i) (omega arith) (c .before .before .before .if1 .left), le-ltb _ _ (c .before .before .before .if1 .left))
 
 pub begin-spec : {M : Type 1} → statement M
 begin-spec =

@@ -1,3 +1,6 @@
+use mathlib.Core.Path.{sym, _∙_}
+use native.Mathlib.Omega.{arith}
+use Rattle.spans.proofs.OfGrids.{hit-at, hit-none}
 use borrow.Author.Needs.{needs}
 use Rattle.spans.proofs.grids.next_hit.Statement.{statement}
 use Rattle.spans.proofs.grids.next_hit.Tie as tie
@@ -37,7 +40,7 @@ enum-told c = search needs
 
 -- src/grids.rt:45:9
 returns : tie.Need-returns
-returns c = ?
+returns c = hit-none _ _ _ (sym (c .enum-told .given .1) ∙ c .before .before .next-entry .ensures ∙ rw (c .before .before .before .before .before .later .ensures))
 
 -- src/grids.rt:47:5
 begin-requires : tie.Need-begin-requires
@@ -45,7 +48,9 @@ begin-requires c κs = search needs
 
 -- src/grids.rt:39:1
 returns-2 : tie.Need-returns-2
-returns-2 c = ?
+returns-2 c = let f = c .before .before .before .before .before .before .before .later .ensures in
+    rw (c .begin .ensures, f)
+    (hit-at _ _ _ (omega arith) (omega arith) (sym (c .before .before .i .given .1) ∙ c .before .before .before .before .next-entry .ensures ∙ rw f))
 
 pub next-hit-spec : {M : Type 1} → statement M
 next-hit-spec =

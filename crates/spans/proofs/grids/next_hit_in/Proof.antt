@@ -1,3 +1,5 @@
+use mathlib.Core.Path.{sym, _∙_}
+use Rattle.spans.proofs.OfGrids.{hit-in}
 use borrow.Author.Needs.{needs}
 use Rattle.spans.proofs.grids.next_hit_in.Statement.{statement}
 use Rattle.spans.proofs.grids.next_hit_in.Tie as tie
@@ -21,7 +23,7 @@ clip-requires c κs = search needs
 
 -- src/grids.rt:75:1
 returns : tie.Need-returns
-returns c = ?
+returns c = rw (c .clip .ensures, c .before .next-hit .ensures, c .before .before .later .ensures) (hit-in _ _ _)
 
 pub next-hit-in-spec : {M : Type 1} → statement M
 next-hit-in-spec = tie.close (tie.spec later-requires next-hit-requires clip-requires returns)

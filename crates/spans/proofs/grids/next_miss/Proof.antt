@@ -1,3 +1,6 @@
+use mathlib.Core.Path.{sym, _∙_}
+use native.Mathlib.Omega.{arith}
+use Rattle.spans.proofs.OfGrids.{miss-below, miss-at, miss-end}
 use borrow.Author.Needs.{needs}
 use Rattle.spans.proofs.grids.next_miss.Statement.{statement}
 use Rattle.spans.proofs.grids.next_miss.Tie as tie
@@ -8,7 +11,7 @@ use Rattle.vectors.proofs.next_entry.Reads as next-entry-reads
 
 -- src/grids.rt:56:9
 returns : tie.Need-returns
-returns c = ?
+returns c = miss-below _ _ _ (omega arith) (c .if1 .taken)
 
 -- src/grids.rt:58:74
 cast-next-entry : tie.Need-cast-next-entry
@@ -36,7 +39,7 @@ begin-requires c κs = search needs
 
 -- src/grids.rt:59:9
 returns-2 : tie.Need-returns-2
-returns-2 c = ?
+returns-2 c = c .begin .ensures ∙ miss-end _ _ _ (omega arith) (omega arith) (omega arith) (sym (c .before .enum-told .given .1) ∙ c .before .before .before .next-entry .ensures)
 
 -- src/grids.rt:61:5
 begin-requires-2 : tie.Need-begin-requires-2
@@ -44,7 +47,7 @@ begin-requires-2 c κs = search needs
 
 -- src/grids.rt:51:1
 returns-3 : tie.Need-returns-3
-returns-3 c = ?
+returns-3 c = c .begin2 .ensures ∙ miss-at _ _ _ (omega arith) (omega arith) (omega arith) (sym (c .before .before .i .given .1) ∙ c .before .before .before .before .next-entry .ensures)
 
 pub next-miss-spec : {M : Type 1} → statement M
 next-miss-spec =

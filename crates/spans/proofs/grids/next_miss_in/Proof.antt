@@ -1,3 +1,5 @@
+use mathlib.Core.Path.{sym, _∙_}
+use Rattle.spans.proofs.OfGrids.{miss-in}
 use borrow.Author.Needs.{needs}
 use Rattle.spans.proofs.grids.next_miss_in.Statement.{statement}
 use Rattle.spans.proofs.grids.next_miss_in.Tie as tie
@@ -21,7 +23,7 @@ sooner-requires c κs = search needs
 
 -- src/grids.rt:84:1
 returns : tie.Need-returns
-returns c = ?
+returns c = rw (c .sooner .ensures, c .before .before .next-out .ensures, c .before .next-miss .ensures) (miss-in _ _ _)
 
 pub next-miss-in-spec : {M : Type 1} → statement M
 next-miss-in-spec =
