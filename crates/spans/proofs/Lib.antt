@@ -1,0 +1,3 @@
+pub mod OfRanges
+pub mod OfGrids
+pub mod OfReaches

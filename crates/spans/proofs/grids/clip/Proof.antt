@@ -1,0 +1,33 @@
+use borrow.Author.Tests.{le-leb, lt-leb}
+use Rattle.spans.specs.Grids.{clipped}
+use borrow.Author.Needs.{needs}
+use Rattle.spans.proofs.grids.clip.Statement.{statement}
+use Rattle.spans.proofs.grids.clip.Tie as tie
+use Rattle.spans.proofs.grids.clip.Reads as reads
+use Rattle.spans.proofs.grids.clip.Lts as lts
+
+-- src/grids.rt:69:19
+enum-known-found : tie.Need-enum-known-found
+enum-known-found c = search needs
+
+-- src/grids.rt:70:27
+enum-told : tie.Need-enum-told
+enum-told c = search needs
+
+-- src/grids.rt:65:1
+returns : tie.Need-returns
+unfolding clipped
+returns c = rw (c .before .before .found .given .1) (simp (le-leb _ _ (c .if1 .taken)))
+
+-- src/grids.rt:65:1
+returns-2 : tie.Need-returns-2
+unfolding clipped
+returns-2 c = rw (c .before .before .found .given .1) (simp (lt-leb _ _ (c .if1 .left)))
+
+-- src/grids.rt:65:1
+returns-3 : tie.Need-returns-3
+unfolding clipped
+returns-3 c = rw (c .enum-told .given .1)
+
+pub clip-spec : {M : Type 1} → statement M
+clip-spec = tie.close (tie.spec enum-known-found enum-told returns returns-2 returns-3)
