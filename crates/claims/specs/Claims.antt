@@ -16,4 +16,5 @@ chassisOf s =
       ownId = λ p. portAt s p .«own_id» .0;
       ari = λ p. withAri (portAt s p);
       claims = λ p. claimsTarget (portAt s p) (vectorOf s p);
-      conversion = λ p. convertedTarget (portAt s p) (vectorOf s p) }
+      conversion = λ p. convertedTarget (portAt s p) (vectorOf s p);
+    }
