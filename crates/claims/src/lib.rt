@@ -1,10 +1,97 @@
-// What a port claims, by its decoders, and what it holds; each decoder is a handful of reads.
+// What a port claims, by its decoders, and what it holds and converts; each answer is a handful of reads.
+mod conversions;
+mod decoders;
 
+pub use conversions::conversion;
+pub use conversions::converted_by_bus;
+pub use conversions::in_secondary_range;
+pub use decoders::bus_claims;
+pub use decoders::high_claims;
+pub use decoders::low_claims;
+pub use decoders::memory_claims;
+pub use decoders::memory_space_enabled;
+pub use decoders::prefetchable_claims;
+pub use decoders::vector_claims;
 use ids::PortNo;
 use ids::Rid;
 use ids::Target;
+use picture::vector;
 use registers::Mechanism;
 use registers::port_at;
 ghost use mathlib.Core.Path.{_≡_};
 ghost use Rattle.chassis.specs.Chassis.{isOwn, holds};
+ghost use Rattle.registers.specs.Record.{portAt};
+ghost use Rattle.picture.specs.Layout.{vectorOf};
+ghost use Rattle.claims.specs.Decoders.{claimsId, claimsAddress};
 ghost use Rattle.claims.specs.Claims.{chassisOf};
+
+// Whether port p claims an ID: by its bus pair, or by its RID vector.
+pub fn claims_id(s: &[u8], p: PortNo, rid: Rid) -> bool
+    ensures { λ r. ⌜ r ≡ claimsId (portAt (now (s .entry)) (p .0)) (vectorOf (now (s .entry)) (p .0)) (rid .0) ⌝ }
+{
+    let port = port_at(s, p);
+    let b = port.bridge;
+    let f = port.fpb;
+    bus_claims(b, rid)
+        | vector_claims(
+            f,
+            Mechanism::Rid,
+            vector(s, p, Mechanism::Rid),
+            rid.0 as u64,
+        )
+}
+
+// Whether port p claims an address: by one of the memory decoders, with Memory Space Enable set.
+fn claims_address(s: &[u8], p: PortNo, a: u64) -> bool
+    ensures { λ r. ⌜ r ≡ claimsAddress (portAt (now (s .entry)) (p .0)) (vectorOf (now (s .entry)) (p .0)) a ⌝ }
+{
+    let port = port_at(s, p);
+    let b = port.bridge;
+    let f = port.fpb;
+    memory_space_enabled(b)
+        & (memory_claims(b, a)
+            | prefetchable_claims(b, a)
+            | low_claims(f, vector(s, p, Mechanism::Low), a)
+            | high_claims(f, vector(s, p, Mechanism::High), a))
+}
+
+// Whether at least one decoder of port p claims the target.
+pub fn claims(s: &[u8], p: PortNo, t: Target) -> bool
+    ensures { λ r. ⌜ r ≡ chassisOf (now (s .entry)) .claims (p .0) t ⌝ }
+{
+    match t {
+        Target::Id(rid) => claims_id(s, p, rid),
+        Target::Addr(a) => claims_address(s, p, a),
+    }
+}
+
+// The ID of port p itself.
+pub fn own_id(s: &[u8], p: PortNo) -> Rid
+    ensures { λ r. ⌜ r .0 ≡ chassisOf (now (s .entry)) .ownId (p .0) ⌝ }
+{
+    Rid(lent::u16_at(s, 16 + 56 * (p.0 as usize) + 2))
+}
+
+// Whether the target is the ID of port p itself.
+pub fn is_own(s: &[u8], p: PortNo, t: Target) -> bool
+    ensures { λ r. ⌜ r ≡ isOwn (chassisOf (now (s .entry))) t (p .0) ⌝ }
+{
+    match t {
+        Target::Id(rid) => own_id(s, p).0 == rid.0,
+        Target::Addr(_) => false,
+    }
+}
+
+// Whether the target is port p's own or claimed by it.
+pub fn holds(s: &[u8], p: PortNo, t: Target) -> bool
+    ensures { λ r. ⌜ r ≡ holds (chassisOf (now (s .entry))) t (p .0) ⌝ }
+{
+    is_own(s, p, t) | claims(s, p, t)
+}
+
+// Whether port p forwards with ARI.
+pub fn with_ari_at(s: &[u8], p: PortNo) -> bool
+    ensures { λ r. ⌜ r ≡ chassisOf (now (s .entry)) .ari (p .0) ⌝ }
+{
+    registers::with_ari(port_at(s, p))
+}

@@ -1,0 +1,53 @@
+use borrow.Author.Tests.{ne-eqb}
+use Rattle.claims.specs.Conversion.{inSecondaryRange}
+use borrow.Author.Needs.{needs}
+use Rattle.claims.proofs.conversions.in_secondary_range.Statement.{statement}
+use Rattle.claims.proofs.conversions.in_secondary_range.Tie as tie
+
+secondary-start-requires : tie.Need-secondary-start-requires
+secondary-start-requires c κs = search needs
+
+unit-requires : tie.Need-unit-requires
+unit-requires c κs = search needs
+
+num-sec-dev-requires : tie.Need-num-sec-dev-requires
+num-sec-dev-requires c κs = search needs
+
+add-result : tie.Need-add-result
+add-result c = search needs
+
+returns : tie.Need-returns
+unfolding inSecondaryRange
+returns c = rw (c .before .before .before .before .before .if1 .taken, c .before .before .num-sec-dev .ensures .0, c .before .before .before .before .before .before .before .before .secondary-start .ensures .0, c .before .before .before .before .before .before .before .unit .ensures)
+
+with-ari-requires : tie.Need-with-ari-requires
+with-ari-requires c κs = search needs
+
+bus-requires : tie.Need-bus-requires
+bus-requires c κs = search needs
+
+cast-result : tie.Need-cast-result
+cast-result c = search needs
+
+returns-2 : tie.Need-returns-2
+unfolding inSecondaryRange
+returns-2 c = simp (ne-eqb _ _ (c .before .before .before .before .if1 .left)) (rw (← c .before .before .before .with-ari .ensures, c .before .before .if2 .taken, c .before .before .before .before .before .before .before .secondary-start .ensures .0, c .before .bus .ensures))
+
+returns-3 : tie.Need-returns-3
+unfolding inSecondaryRange
+returns-3 c = simp (ne-eqb _ _ (c .before .before .before .before .if1 .left)) (rw (← c .before .before .before .with-ari .ensures, c .before .before .if2 .left, c .before .before .before .before .before .before .before .secondary-start .ensures .0, c .before .before .before .before .before .before .unit .ensures))
+
+pub in-secondary-range-spec : {M : Type 1} → statement M
+in-secondary-range-spec =
+    tie.close
+    (tie.spec
+    secondary-start-requires
+    unit-requires
+    num-sec-dev-requires
+    add-result
+    returns
+    with-ari-requires
+    bus-requires
+    cast-result
+    returns-2
+    returns-3)

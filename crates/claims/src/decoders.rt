@@ -1,0 +1,82 @@
+// Each decoder of a port by its name, over the port's registers and vectors.
+use ids::Rid;
+use registers::Bridge;
+use registers::Fpb;
+use registers::Mechanism;
+use registers::enabled;
+use registers::settings;
+ghost use mathlib.Core.Path.{_≡_};
+ghost use Prim.Native.Nat.{_*_, _-_, _^_, _≤_};
+ghost use Rattle.claims.specs.Decoders.{busClaims, vectorClaims, baseOf, upperOf, memoryClaims, prefetchableClaims, lowClaims, highClaims, memorySpaceEnabled};
+
+// The bus pair; 0, 0 claims nothing.
+pub fn bus_claims(b: Bridge, rid: Rid) -> bool
+    ensures { λ r. ⌜ r ≡ busClaims b (rid .0) ⌝ }
+{
+    let bus = rid.bus();
+    !((b.secondary == 0) & (b.subordinate == 0)) & ((b.secondary <= bus) & (bus <= b.subordinate))
+}
+
+// A vector: its mechanism is enabled, and the entry that applies to the target is set.
+pub fn vector_claims(f: Fpb, m: Mechanism, v: &[u8], t: u64) -> bool
+    ensures { λ r. ⌜ r ≡ vectorClaims f m (now (v .entry)) t ⌝ }
+{
+    enabled(f, m) & vectors::hit(v, settings(f, m), t)
+}
+
+// Address bits 31:20 of a base or limit register, the bits below them zero.
+fn base_of(register: u16) -> u64
+    ensures { λ r. ⌜ r ≡ baseOf register ⌝ }
+    ensures { λ r. ⌜ r ≤ 2 ^ 32 - 2 ^ 20 ⌝ }
+{
+    ((register >> 4) % 4096) as u64 * 1048576
+}
+
+// Memory Base..Limit; a limit fills its low 20 bits with ones.
+pub fn memory_claims(b: Bridge, a: u64) -> bool
+    ensures { λ r. ⌜ r ≡ memoryClaims b a ⌝ }
+{
+    (base_of(b.memory_base) <= a) & (a <= base_of(b.memory_limit) + 1048575)
+}
+
+// The upper word of a prefetchable base or limit, which type 0 ignores.
+fn upper_of(b: Bridge, upper: u32) -> u64
+    ensures { λ r. ⌜ r ≡ upperOf b upper ⌝ }
+    ensures { λ r. ⌜ r ≤ 2 ^ 64 - 2 ^ 32 ⌝ }
+{
+    if b.prefetchable_base % 16 == 1 {
+        upper as u64 * 4294967296
+    } else {
+        0
+    }
+}
+
+// Prefetchable Base..Limit.
+pub fn prefetchable_claims(b: Bridge, a: u64) -> bool
+    ensures { λ r. ⌜ r ≡ prefetchableClaims b a ⌝ }
+{
+    let base = upper_of(b, b.prefetchable_base_upper) + base_of(b.prefetchable_base);
+    let limit = upper_of(b, b.prefetchable_limit_upper) + (base_of(b.prefetchable_limit) + 1048575);
+    (base <= a) & (a <= limit)
+}
+
+// The MEM Low vector, below 4 GiB alone.
+pub fn low_claims(f: Fpb, v: &[u8], a: u64) -> bool
+    ensures { λ r. ⌜ r ≡ lowClaims f (now (v .entry)) a ⌝ }
+{
+    (a < 4294967296) & vector_claims(f, Mechanism::Low, v, a)
+}
+
+// The MEM High vector, from 4 GiB up alone.
+pub fn high_claims(f: Fpb, v: &[u8], a: u64) -> bool
+    ensures { λ r. ⌜ r ≡ highClaims f (now (v .entry)) a ⌝ }
+{
+    (4294967296 <= a) & vector_claims(f, Mechanism::High, v, a)
+}
+
+// Without it no memory decoder of the port claims anything.
+pub fn memory_space_enabled(b: Bridge) -> bool
+    ensures { λ r. ⌜ r ≡ memorySpaceEnabled b ⌝ }
+{
+    (b.command >> 1) % 2 == 1
+}
