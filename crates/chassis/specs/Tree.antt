@@ -56,10 +56,13 @@ treeBroken tree p =
     || cond (eqb (tree .kind p) upstream) (upstreamBroken tree p)
     (not (eqb (tree .kind p) downstream) || downstreamBroken tree p))
 
--- the port k steps above p, and 255 once the root is reached
+-- the port above p, and k steps above p; 255 once the root is reached
+unfoldable pub oneAbove : Tree → ℕ → ℕ
+oneAbove tree p = cond (eqb p root) root (tree .parent p)
+
 unfoldable pub above : Tree → ℕ → ℕ → ℕ
 above tree zero p = p
-above tree (suc k) p = cond (eqb (above tree k p) root) root (tree .parent (above tree k p))
+above tree (suc k) p = oneAbove tree (above tree k p)
 
 -- Number 7, "chain over 16": "A chain from a root port downward has at most 16 ports", so nothing stands 16 steps above a port
 unfoldable pub chainTooLong : Tree → ℕ → Bool

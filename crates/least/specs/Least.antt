@@ -19,3 +19,8 @@ abbrev pub soonest : Found → Found → Found
 soonest Nothing found = found
 soonest (At i) Nothing = At i
 soonest (At i) (At j) = cond (leb i j) (At i) (At j)
+
+-- the first finding, or the second where the first is nothing
+abbrev pub orElse : Found → Found → Found
+orElse (At i) second = At i
+orElse Nothing second = second

@@ -1,0 +1,92 @@
+-- Demand 3: in a chassis where the check finds nothing, from the host and from every device port a packet comes to the same end, in
+-- at most 32 crossings, and no place on the way has two holders; except that a device port that itself claims the target refuses
+-- its own device.
+use Prim.Native.Nat.{ℕ, _≤_}
+use mathlib.Core.Bool.{true, false}
+use mathlib.Core.List.{List, []}
+use mathlib.Core.Path.{_≡_, subst}
+use native.Mathlib.Nat.{le-trans}
+use lib.ListN.{length}
+use Rattle.ids.specs.declared.PortNo.{PortNo}
+use Rattle.ids.specs.declared.Target.{Target}
+use Rattle.chassis.specs.declared.End.{End}
+use Rattle.chassis.specs.declared.End.the-variants.{Unsupported}
+use Rattle.chassis.specs.declared.Holders.the-variants.{Both}
+use Rattle.chassis.specs.declared.Packet.the-variants.{Plain}
+use Rattle.chassis.specs.declared.Whereabouts.{Whereabouts}
+use Rattle.chassis.specs.declared.Whereabouts.the-variants.{Root, Into, From, Type0, Type1}
+use Rattle.chassis.specs.Chassis.{Chassis, holds, lowestAt}
+use Rattle.chassis.specs.Tree.{root, isDevicePort}
+use Rattle.chassis.specs.Walk.{Walk}
+use Rattle.chassis.proofs.Sound.{InRange, Sound}
+use Rattle.chassis.proofs.Tree.{Sane}
+use Rattle.chassis.proofs.Steps.{left-most, Within}
+use Rattle.chassis.proofs.Walks.{walk-one, walk-exists, walk-short}
+use Rattle.chassis.proofs.Ways.{Came}
+use Rattle.chassis.proofs.Clean.{Clean, never-two}
+use Rattle.chassis.proofs.Homeward.{same-end, own-device-refused, device-port-below}
+
+-- the place where a packet is
+abbrev pub placeOf : Whereabouts → ℕ
+placeOf Root = root
+placeOf (Into q) = q .0
+placeOf (From q) = q .0
+placeOf (Type0 q) = q .0
+placeOf (Type1 q) = q .0
+
+-- no place on the way from w has two holders
+abbrev pub NoTwoHolders : Chassis → Target → Whereabouts → Type 0
+NoTwoHolders c t w =
+    (path : List PortNo) (v : Whereabouts) → Came c (Plain t) w path v
+    → (p q : PortNo) → lowestAt c (placeOf v) (holds c t) ≡ Both p q → ⊥
+
+-- the packet comes from w to the end, in at most 32 crossings, and no place on the way has two holders
+pub record Comes (c : Chassis) (t : Target) (w : Whereabouts) (e : End) : Type 0 where
+  pub path : List PortNo
+  pub walk : Walk c (Plain t) w path e
+  pub short : length path ≤ 32
+  pub no-two-holders : NoTwoHolders c t w
+
+-- the whole demand for one target
+pub record OneEnd (c : Chassis) (t : Target) : Type 0 where
+  pub end : End
+  pub from-host : Comes c t Root end
+  pub from-device : (d : PortNo) → isDevicePort (c .tree) (d .0) ≡ true → c .claims (d .0) t ≡ false → Comes c t (From d) end
+  pub own-device : (d : PortNo) → isDevicePort (c .tree) (d .0) ≡ true → c .claims (d .0) t ≡ true
+      → Walk c (Plain t) (From d) [] (Unsupported d) × NoTwoHolders c t (From d)
+
+module _ (c : Chassis) (t : Target) (sane : Sane (c .tree)) (clean : Clean c t) where
+  no-two : (w : Whereabouts) → NoTwoHolders c t w
+  no-two w path v came = never-two c t clean (placeOf v)
+
+  comes : {w : Whereabouts} {e : End} (path : List PortNo) → Within c w → Walk c (Plain t) w path e → Comes c t w e
+  comes {w} path l k =
+      record {
+        path = path;
+        walk = k;
+        short = le-trans (walk-short c (Plain t) sane l k) (left-most c w);
+        no-two-holders = no-two w;
+      }
+
+  from-device-too : (e : End) (path : List PortNo) → Walk c (Plain t) Root path e → (d : PortNo)
+      → isDevicePort (c .tree) (d .0) ≡ true → c .claims (d .0) t ≡ false → Comes c t (From d) e
+  from-device-too e path k d device unclaimed =
+      let below = device-port-below c (d .0) device in
+      let own = walk-exists c (Plain t) sane (From d) below in
+      let hosts = same-end c t sane clean d device unclaimed (own .walk) in
+      let same = walk-one (hosts .walk) k .1 in
+      comes (own .path) below (subst (λ (f : End). Walk c (Plain t) (From d) (own .path) f) same (own .walk))
+
+  pub clean-one-end : OneEnd c t
+  clean-one-end =
+      let host = walk-exists c (Plain t) sane Root tt in
+      record {
+        end = host .end;
+        from-host = comes (host .path) tt (host .walk);
+        from-device = from-device-too (host .end) (host .path) (host .walk);
+        own-device = λ d device claimed. (own-device-refused c t d device claimed, no-two (From d));
+      }
+
+-- where the check finds nothing, every packet for a target that there is comes to one end
+pub one-end : (c : Chassis) → Sound c → (t : Target) → InRange t → OneEnd c t
+one-end c sound t range = clean-one-end c t (sound .sane) (sound .clean t range)

@@ -1,0 +1,13 @@
+pub mod Bools
+pub mod Ports
+pub mod Tree
+pub mod Steps
+pub mod Walks
+pub mod CheckLaws
+pub mod LeastTarget
+pub mod Clean
+pub mod Starts
+pub mod Ways
+pub mod Sound
+pub mod Homeward
+pub mod Demand3

@@ -1,0 +1,124 @@
+// Reading a picture: any lent bytes are read, or refused with the number of the table and the port that it names.
+mod headers;
+mod layout;
+
+use ids::PortNo;
+pub use layout::vector;
+use registers::port_at;
+ghost use mathlib.Core.Path.{_≡_};
+ghost use Prim.Native.Nat.{_≤_};
+ghost use Rattle.least.specs.Least.{firstIn};
+ghost use Rattle.picture.specs.Header.{headerOf};
+ghost use Rattle.picture.specs.Reading.{breaks, culpritOf, refused, portsReading, reading};
+
+pub struct Header {
+    pub edition: u16,
+    pub count: u16,
+    pub total: u32,
+    pub records_at: u32,
+    pub vectors_at: u32,
+}
+
+// A number of the table, and the port that it names, or 255.
+pub struct Refusal {
+    pub number: u8,
+    pub port: PortNo,
+}
+
+pub enum Reading {
+    Read(Header),
+    Refused(Refusal),
+}
+
+// The rules that each port keeps by itself: numbers 6 to 9.
+pub enum Rule {
+    Tree,
+    Chain,
+    Settings,
+    Start,
+}
+
+// The port that breaks a rule, if one does.
+pub enum Culprit {
+    Port(PortNo),
+    Nobody,
+}
+
+fn breaks_rule(s: &[u8], p: PortNo, rule: Rule) -> bool
+    ensures { λ r. ⌜ r ≡ breaks rule (now (s .entry)) (p .0) ⌝ }
+{
+    match rule {
+        Rule::Tree => trees::tree_broken(s, p),
+        Rule::Chain => trees::chain_too_long(s, p),
+        Rule::Settings => registers::settings_wrong(port_at(s, p)),
+        Rule::Start => registers::start_wrong(port_at(s, p)),
+    }
+}
+
+// The lowest of n ports that breaks a rule.
+fn lowest_culprit(s: &[u8], n: u8, rule: Rule) -> Culprit
+    ensures { λ r. ⌜ r ≡ culpritOf (firstIn (breaks rule (now (s .entry))) 0 n) ⌝ }
+{
+    let mut p: u8 = 0;
+    while p < n {
+        if breaks_rule(s, PortNo(p), rule) {
+            return Culprit::Port(PortNo(p));
+        }
+        p += 1;
+    }
+    Culprit::Nobody
+}
+
+fn refuse(number: u8, port: PortNo) -> Reading
+    ensures { λ r. ⌜ r ≡ refused number (port .0) ⌝ }
+{
+    Reading::Refused(Refusal { number, port })
+}
+
+// Numbers 6 to 10, looked for over all ports one number after the other.
+fn read_ports(s: &[u8], h: Header) -> Reading
+    requires { ⌜ h ≡ headerOf (now s) ⌝ }
+    requires { ⌜ h .count ≤ 64 ⌝ }
+    ensures { λ r. ⌜ r ≡ portsReading (now (s .entry)) ⌝ }
+{
+    let n = h.count as u8;
+    if let Culprit::Port(p) = lowest_culprit(s, n, Rule::Tree) {
+        return refuse(6, p);
+    }
+    if let Culprit::Port(p) = lowest_culprit(s, n, Rule::Chain) {
+        return refuse(7, p);
+    }
+    if let Culprit::Port(p) = lowest_culprit(s, n, Rule::Settings) {
+        return refuse(8, p);
+    }
+    if let Culprit::Port(p) = lowest_culprit(s, n, Rule::Start) {
+        return refuse(9, p);
+    }
+    if let Culprit::Port(p) = layout::misplaced(s, n) {
+        return refuse(10, p);
+    }
+    Reading::Read(h)
+}
+
+// Reads a picture: numbers 1 to 10, or its header.
+pub fn read(s: &[u8]) -> Reading
+    ensures { λ r. ⌜ r ≡ reading (now (s .entry)) ⌝ }
+{
+    if headers::length_wrong(s) {
+        return refuse(1, PortNo(255));
+    }
+    let h = headers::header_at(s);
+    if headers::edition_wrong(h) {
+        return refuse(2, PortNo(255));
+    }
+    if headers::count_wrong(h) {
+        return refuse(3, PortNo(255));
+    }
+    if headers::total_wrong(s.len(), h) {
+        return refuse(4, PortNo(255));
+    }
+    if headers::offset_wrong(s.len(), h) {
+        return refuse(5, PortNo(255));
+    }
+    read_ports(s, h)
+}

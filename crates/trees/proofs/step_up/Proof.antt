@@ -1,0 +1,25 @@
+use borrow.Author.Tests.{eq-eqb, ne-eqb}
+use Rattle.chassis.specs.Tree.{oneAbove}
+use borrow.Author.Needs.{needs}
+use Rattle.trees.proofs.step_up.Statement.{statement}
+use Rattle.trees.proofs.step_up.Tie as tie
+use Rattle.trees.proofs.step_up.Reads as reads
+use Rattle.trees.proofs.step_up.Lts as lts
+use Rattle.trees.proofs.parent_at.Reads as parent-at-reads
+
+-- src/lib.rt:66:9
+returns : tie.Need-returns
+unfolding oneAbove
+returns c = rw (eq-eqb _ _ (c .if1 .taken)) (c .if1 .taken)
+
+-- src/lib.rt:68:5
+parent-at-requires : tie.Need-parent-at-requires
+parent-at-requires c κs = search needs
+
+-- src/lib.rt:62:1
+returns-2 : tie.Need-returns-2
+unfolding oneAbove
+returns-2 c = rw (ne-eqb _ _ (c .before .if1 .left)) (c .parent-at .ensures)
+
+pub step-up-spec : {M : Type 1} → statement M
+step-up-spec = tie.close (tie.spec returns parent-at-requires returns-2)

@@ -1,0 +1,82 @@
+// How the ports of a picture hang together: kinds, parents, children and chains (numbers 6 and 7).
+use ids::PortNo;
+ghost use mathlib.Core.Path.{_≡_};
+ghost use Rattle.chassis.specs.Tree.{hasChildBelow, isDevicePort, upstreamBroken, downstreamBroken, treeBroken, oneAbove, chainTooLong};
+ghost use Rattle.registers.specs.Record.{portAt};
+ghost use Rattle.trees.specs.Trees.{treeOf};
+
+pub fn kind_at(s: &[u8], p: PortNo) -> u8
+    ensures { λ r. ⌜ r ≡ portAt (now (s .entry)) (p .0) .kind ⌝ }
+{
+    lent::u8_at(s, 16 + 56 * (p.0 as usize))
+}
+
+pub fn parent_at(s: &[u8], p: PortNo) -> PortNo
+    ensures { λ r. ⌜ r .0 ≡ portAt (now (s .entry)) (p .0) .parent .0 ⌝ }
+{
+    PortNo(lent::u8_at(s, 16 + 56 * (p.0 as usize) + 1))
+}
+
+// Whether one of the ports below number n is a child of q.
+pub fn has_child_below(s: &[u8], n: u8, q: PortNo) -> bool
+    ensures { λ r. ⌜ r ≡ hasChildBelow (treeOf (now (s .entry))) n (q .0) ⌝ }
+{
+    let mut found = false;
+    let mut p: u8 = 0;
+    while p < n {
+        found = found | (parent_at(s, PortNo(p)).0 == q.0);
+        p += 1;
+    }
+    found
+}
+
+fn upstream_broken(s: &[u8], p: PortNo) -> bool
+    ensures { λ r. ⌜ r ≡ upstreamBroken (treeOf (now (s .entry))) (p .0) ⌝ }
+{
+    let parent = parent_at(s, p);
+    (kind_at(s, parent) == 1) | has_child_below(s, p.0, parent)
+}
+
+fn downstream_broken(s: &[u8], p: PortNo) -> bool
+    ensures { λ r. ⌜ r ≡ downstreamBroken (treeOf (now (s .entry))) (p .0) ⌝ }
+{
+    !(kind_at(s, parent_at(s, p)) == 1)
+}
+
+// Number 6.
+pub fn tree_broken(s: &[u8], p: PortNo) -> bool
+    ensures { λ r. ⌜ r ≡ treeBroken (treeOf (now (s .entry))) (p .0) ⌝ }
+{
+    let kind = kind_at(s, p);
+    let parent = parent_at(s, p);
+    if kind == 0 {
+        return !(parent.0 == 255);
+    }
+    if kind == 1 {
+        return !(parent.0 < p.0) | upstream_broken(s, p);
+    }
+    !(parent.0 < p.0) | (!(kind == 2) | downstream_broken(s, p))
+}
+
+// The port above p, and 255 once the root is reached.
+fn step_up(s: &[u8], p: PortNo) -> PortNo
+    ensures { λ r. ⌜ r .0 ≡ oneAbove (treeOf (now (s .entry))) (p .0) ⌝ }
+{
+    if p.0 == 255 {
+        return p;
+    }
+    parent_at(s, p)
+}
+
+// Number 7.
+pub fn chain_too_long(s: &[u8], p: PortNo) -> bool
+    ensures { λ r. ⌜ r ≡ chainTooLong (treeOf (now (s .entry))) (p .0) ⌝ }
+{
+    let mut q = p;
+    let mut k: u8 = 0;
+    while k < 16 {
+        q = step_up(s, q);
+        k += 1;
+    }
+    !(q.0 == 255)
+}
