@@ -19,14 +19,9 @@ next-hit-in-requires-2 : tie.Need-next-hit-in-requires-2
 next-hit-in-requires-2 c κs = search needs
 
 returns : tie.Need-returns
-returns c = rw (
-  c .next-hit-in2 .ensures,
-  c .before .next-hit-in .ensures,
-  c .before .before .sooner .ensures,
-  c .before .before .before .next-in2 .ensures,
-  c .before .before .before .before .next-in .ensures,
-)
-    (reach-first _ _ _ _)
+returns c =
+    rw (c .next-hit-in2 .ensures, c .before .next-hit-in .ensures, c .before .before .sooner .ensures)
+    (rw (c .before .before .before .next-in2 .ensures, c .before .before .before .before .next-in .ensures) (reach-first _ _ _ _))
 
 pub next-reached-spec : {M : Type 1} → statement M
 next-reached-spec =

@@ -1,3 +1,4 @@
+use Prim.Native.Nat.{_-_, _/_, _^_, _≤_, _<_}
 use native.Mathlib.Omega.{arith}
 use borrow.Author.Tests.{lt-ltb, le-ltb}
 use borrow.Author.Needs.{needs}
@@ -17,7 +18,10 @@ shr-last c = search needs
 
 returns : tie.Need-returns
 unfolding beginsFrom
-returns c = simp (lt-ltb _ _ (c .if1 .taken))
+returns c =
+    let a = c .before .before .before .args in
+    let past : (2 ^ 64 - 1 - a .s .start) / 2 ^ a .s .scale < a .i = omega arith in
+    simp (lt-ltb _ _ past)
 
 cast-later : tie.Need-cast-later
 cast-later c = search needs
@@ -28,9 +32,8 @@ shl-later c = search needs
 add-later : tie.Need-add-later
 add-later c =
     let a = c .before .before .before .before .before .args in
-    record {
-      fits = rw (shift-exact (a .s) (a .i) (omega arith) (c .before .before .if1 .left)) (begins-below (a .s) (a .i) (omega arith) (c .before .before .if1 .left));
-    }
+    let begins : a .i ≤ (2 ^ 64 - 1 - a .s .start) / 2 ^ a .s .scale = omega arith in
+    record { fits = rw (shift-exact (a .s) (a .i) (omega arith) begins) (begins-below (a .s) (a .i) (omega arith) begins) }
 
 later-requires : tie.Need-later-requires
 later-requires c κs = search needs
@@ -39,7 +42,8 @@ returns-2 : tie.Need-returns-2
 unfolding beginsFrom
 returns-2 c =
     let a = c .before .before .before .before .before .before .args in
-    rw (c .later .ensures, shift-exact (a .s) (a .i) (omega arith) (c .before .before .before .if1 .left), le-ltb _ _ (c .before .before .before .if1 .left))
+    let begins : a .i ≤ (2 ^ 64 - 1 - a .s .start) / 2 ^ a .s .scale = omega arith in
+    rw (c .later .ensures, shift-exact (a .s) (a .i) (omega arith) begins, le-ltb _ _ begins)
 
 pub begin-spec : {M : Type 1} → statement M
 begin-spec =
