@@ -176,7 +176,8 @@ module _ (v : List ℕ) (s : Settings) where
             })
 
 -- a finding that is cut off above `hi`
-clip-first : (p q : ℕ → Bool) (from hi : ℕ) → ((t : ℕ) → from ≤ t → q t ≡ (leb t hi && p t)) → clipped (firstIn p from (2 ^ 64)) hi ≡ firstIn q from (2 ^ 64)
+clip-first : (p q : ℕ → Bool) (from hi : ℕ) → ((t : ℕ) → from ≤ t → q t ≡ (leb t hi && p t))
+    → clipped (firstIn p from (2 ^ 64)) hi ≡ firstIn q from (2 ^ 64)
 unfolding clipped
 clip-first p q from hi and = least-is q from (2 ^ 64) (clipped (firstIn p from (2 ^ 64)) hi) (go (firstIn p from (2 ^ 64)) (of-range p from (2 ^ 64)))
   where

@@ -99,7 +99,8 @@ module _ (d : Reach) (v w : List ℕ) where
   unfolding misses reaches onGrids missedIn
   within-other t e = rw (not-false (hitIn w (d .other) t) e, or-right, or-right)
 
-  none-reached : (t : ℕ) → outOf (d .first) t ≡ true → outOf (d .second) t ≡ true → missedIn v (d .one) t ≡ true → missedIn w (d .other) t ≡ true
+  none-reached : (t : ℕ) → outOf (d .first) t ≡ true → outOf (d .second) t ≡ true
+      → missedIn v (d .one) t ≡ true → missedIn w (d .other) t ≡ true
       → misses d v w t ≡ true
   unfolding misses reaches onRanges onGrids outOf missedIn
   none-reached t a b x y =

@@ -1,3 +1,4 @@
+-- The loop has passed no target that both have as wanted, below `i`.
 use Prim.Native.Nat.{_-_, _^_}
 use mathlib.Core.Path.{sym, _∙_}
 use native.Mathlib.Nat.{le-refl}

@@ -1,3 +1,4 @@
+-- The loop has passed nothing but what is reached, from `from` on and below `i`.
 use Prim.Native.Nat.{_≤_, _-_, _^_}
 use mathlib.Core.Path.{sym, _∙_}
 use native.Mathlib.Nat.{le-refl}
@@ -31,13 +32,18 @@ returns : tie.Need-returns Inv-loop μ-loop
 returns c = skip-none _ _ _ _ (c .before .before .before .loop .inv) (sym (c .enum-told .given .1) ∙ c .before .before .skip .ensures)
 
 returns-2 : tie.Need-returns-2 Inv-loop μ-loop
-returns-2 c = skip-found _ _ _ _ (c .before .before .before .before .before .loop .inv) (sym (c .before .before .k .given .1) ∙ c .before .before .before .before .skip .ensures) (c .if1 .taken)
+returns-2 c =
+    skip-found _ _ _ _ (c .before .before .before .before .before .loop .inv)
+    (sym (c .before .before .k .given .1) ∙ c .before .before .before .before .skip .ensures)
+    (c .if1 .taken)
 
 loop-less : tie.Need-loop-less Inv-loop μ-loop
 loop-less c = omega (arith, skip-at _ _ _ _ (sym (c .before .before .k .given .1) ∙ c .before .before .before .before .skip .ensures))
 
 loop-again : tie.Need-loop-again Inv-loop μ-loop
-loop-again c = skip-more _ _ _ _ (c .before .before .before .before .before .loop .inv) (sym (c .before .before .k .given .1) ∙ c .before .before .before .before .skip .ensures)
+loop-again c =
+    skip-more _ _ _ _ (c .before .before .before .before .before .loop .inv)
+    (sym (c .before .before .k .given .1) ∙ c .before .before .before .before .skip .ensures)
 
 pub next-unreached-spec : {M : Type 1} → statement M
 next-unreached-spec =

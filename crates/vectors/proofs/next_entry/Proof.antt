@@ -1,3 +1,4 @@
+-- The loop has found no entry as wanted from `from` on and below `i`.
 use Prim.Native.Nat.{_≤_, _-_}
 use native.Mathlib.Nat.{le-refl}
 use native.Mathlib.Omega.{arith}
@@ -21,7 +22,15 @@ is-set-requires c κs = search needs
 
 returns : tie.Need-returns Inv-loop μ-loop
 unfolding entryIs
-returns c = at-is (record { from = c .before .before .before .loop .inv .0; below = omega arith; holds = rw (← c .before .is-set .ensures) (c .if1 .taken); first = c .before .before .before .loop .inv .1 })
+returns c =
+    let came = c .before .before .before .loop .inv in
+    at-is
+    (record {
+      from = came .0;
+      below = omega arith;
+      holds = rw (← c .before .is-set .ensures) (c .if1 .taken);
+      first = came .1;
+    })
 
 add-i : tie.Need-add-i Inv-loop μ-loop
 add-i c = omega arith

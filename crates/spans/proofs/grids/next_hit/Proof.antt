@@ -27,7 +27,9 @@ enum-told : tie.Need-enum-told
 enum-told c = search needs
 
 returns : tie.Need-returns
-returns c = hit-none _ _ _ (sym (c .enum-told .given .1) ∙ c .before .before .next-entry .ensures ∙ rw (c .before .before .before .before .before .later .ensures))
+returns c =
+    let f = c .before .before .before .before .before .later .ensures in
+    hit-none _ _ _ (sym (c .enum-told .given .1) ∙ c .before .before .next-entry .ensures ∙ rw f)
 
 begin-requires : tie.Need-begin-requires
 begin-requires c κs = search needs

@@ -23,7 +23,9 @@ sooner-requires : tie.Need-sooner-requires
 sooner-requires c κs = search needs
 
 returns-2 : tie.Need-returns-2
-returns-2 c = rw (c .sooner .ensures, c .before .clip .ensures, c .before .before .next-hit .ensures, c .before .before .before .before .before .later .ensures, hit-in)
+returns-2 c =
+    let f = c .before .before .before .before .before .later .ensures in
+    rw (c .sooner .ensures, c .before .clip .ensures, c .before .before .next-hit .ensures, f, hit-in)
 
 pub next-hit-in-spec : {M : Type 1} → statement M
 next-hit-in-spec =

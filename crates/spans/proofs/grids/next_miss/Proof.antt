@@ -27,13 +27,19 @@ begin-requires : tie.Need-begin-requires
 begin-requires c κs = search needs
 
 returns-2 : tie.Need-returns-2
-returns-2 c = c .begin .ensures ∙ miss-end _ _ _ (omega arith) (omega arith) (omega arith) (sym (c .before .enum-told .given .1) ∙ c .before .before .before .next-entry .ensures)
+returns-2 c =
+    c .begin .ensures
+    ∙ miss-end _ _ _ (omega arith) (omega arith) (omega arith)
+    (sym (c .before .enum-told .given .1) ∙ c .before .before .before .next-entry .ensures)
 
 begin-requires-2 : tie.Need-begin-requires-2
 begin-requires-2 c κs = search needs
 
 returns-3 : tie.Need-returns-3
-returns-3 c = c .begin2 .ensures ∙ miss-at _ _ _ (omega arith) (omega arith) (omega arith) (sym (c .before .before .i .given .1) ∙ c .before .before .before .before .next-entry .ensures)
+returns-3 c =
+    c .begin2 .ensures
+    ∙ miss-at _ _ _ (omega arith) (omega arith) (omega arith)
+    (sym (c .before .before .i .given .1) ∙ c .before .before .before .before .next-entry .ensures)
 
 pub next-miss-spec : {M : Type 1} → statement M
 next-miss-spec =
