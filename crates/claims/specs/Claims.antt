@@ -1,0 +1,20 @@
+-- The chassis of a picture: its tree, and what its ports claim and convert by their registers and vectors.
+use Prim.Native.Nat.{ℕ}
+use mathlib.Core.List.{List}
+use Rattle.chassis.specs.Chassis.{Chassis}
+use Rattle.registers.specs.Record.{portAt}
+use Rattle.registers.specs.Rules.{withAri}
+use Rattle.trees.specs.Trees.{treeOf}
+use Rattle.picture.specs.Layout.{vectorOf}
+use Rattle.claims.specs.Decoders.{claimsTarget}
+use Rattle.claims.specs.Conversion.{convertedTarget}
+
+abbrev pub chassisOf : List ℕ → Chassis
+chassisOf s =
+    record {
+      tree = treeOf s;
+      ownId = λ p. portAt s p .«own_id» .0;
+      ari = λ p. withAri (portAt s p);
+      claims = λ p. claimsTarget (portAt s p) (vectorOf s p);
+      conversion = λ p. convertedTarget (portAt s p) (vectorOf s p);
+    }

@@ -1,0 +1,76 @@
+-- 01, "What a port claims": each decoder by its name, of one port's registers and vectors.
+use Prim.Native.Nat.{ℕ, _+_, _-_, _*_, _^_, _%_}
+use mathlib.Core.Bool.{Bool, not, cond, _&&_, _||_}
+use mathlib.Core.List.{List}
+use lib.Dec.{eqb, leb, ltb}
+use Rattle.ids.specs.declared.Target.{Target}
+use Rattle.ids.specs.declared.Target.the-variants.{Id, Addr}
+use Rattle.ids.specs.Ids.{busOf}
+use Rattle.vectors.specs.Vectors.{hits}
+use Rattle.registers.specs.declared.Bridge.{Bridge}
+use Rattle.registers.specs.declared.Fpb.{Fpb}
+use Rattle.registers.specs.declared.Port.{Port}
+use Rattle.registers.specs.declared.Mechanism.{Mechanism}
+use Rattle.registers.specs.declared.Mechanism.the-variants.{Rid, Low, High}
+use Rattle.registers.specs.Vectors.{field, enabledIn, settingsOf}
+
+-- both ends belong to it
+abbrev pub between : ℕ → ℕ → ℕ → Bool
+between lo hi t = leb lo t && leb t hi
+
+-- bus: "bus within Secondary..Subordinate"; "The pair 0, 0 claims nothing, and so does Secondary above Subordinate"
+unfoldable pub busClaims : Bridge → ℕ → Bool
+busClaims b rid =
+    not (eqb (b .secondary) 0 && eqb (b .subordinate) 0) && between (b .secondary) (b .subordinate) (busOf rid)
+
+-- rid, low, high: "decoding enabled and the entry set"
+unfoldable pub vectorClaims : Fpb → Mechanism → List ℕ → ℕ → Bool
+vectorClaims f m v t = enabledIn f m && hits v (settingsOf f m) t
+
+-- "Register bits 15:4 are address bits 31:20; a limit fills its low 20 bits with ones; base above limit claims nothing."
+abbrev pub baseOf : ℕ → ℕ
+baseOf register = field register 4 12 * 2 ^ 20
+
+abbrev pub limitOf : ℕ → ℕ
+limitOf register = baseOf register + (2 ^ 20 - 1)
+
+-- mem: "Memory Base..Limit"
+unfoldable pub memoryClaims : Bridge → ℕ → Bool
+memoryClaims b a = between (baseOf (b .«memory_base»)) (limitOf (b .«memory_limit»)) a
+
+-- pref: "Prefetchable type 1 (bits 3:0) uses the upper words, type 0 ignores them."
+abbrev pub upperOf : Bridge → ℕ → ℕ
+upperOf b upper = cond (eqb (b .«prefetchable_base» % 16) 1) (upper * 2 ^ 32) 0
+
+unfoldable pub prefetchableClaims : Bridge → ℕ → Bool
+prefetchableClaims b a =
+    between (upperOf b (b .«prefetchable_base_upper») + baseOf (b .«prefetchable_base»))
+    (upperOf b (b .«prefetchable_limit_upper») + limitOf (b .«prefetchable_limit»))
+    a
+
+-- low and high: "below 4 GiB an enabled Low entry; from 4 GiB up an enabled High entry"
+unfoldable pub lowClaims : Fpb → List ℕ → ℕ → Bool
+lowClaims f v a = ltb a (2 ^ 32) && vectorClaims f Low v a
+
+unfoldable pub highClaims : Fpb → List ℕ → ℕ → Bool
+highClaims f v a = leb (2 ^ 32) a && vectorClaims f High v a
+
+-- "Command (2); bit 1 is Memory Space Enable"
+unfoldable pub memorySpaceEnabled : Bridge → Bool
+memorySpaceEnabled b = eqb (field (b .command) 1 1) 1
+
+-- "These are all the decoders." A port claims what at least one of them claims, addresses "only with Memory Space Enable set".
+unfoldable pub claimsId : Port → (Mechanism → List ℕ) → ℕ → Bool
+claimsId p vector rid = busClaims (p .bridge) rid || vectorClaims (p .fpb) Rid (vector Rid) rid
+
+unfoldable pub claimsAddress : Port → (Mechanism → List ℕ) → ℕ → Bool
+claimsAddress p vector a =
+    memorySpaceEnabled (p .bridge)
+    && (memoryClaims (p .bridge) a
+    || prefetchableClaims (p .bridge) a
+    || lowClaims (p .fpb) (vector Low) a
+    || highClaims (p .fpb) (vector High) a)
+
+abbrev pub claimsTarget : Port → (Mechanism → List ℕ) → Target → Bool
+claimsTarget p vector (Id rid) = claimsId p vector (rid .0)
+claimsTarget p vector (Addr a) = claimsAddress p vector a

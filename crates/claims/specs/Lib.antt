@@ -1,0 +1,3 @@
+pub mod Decoders
+pub mod Conversion
+pub mod Claims
