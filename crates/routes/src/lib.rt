@@ -1,5 +1,4 @@
 // Where a packet goes: the rules of the walk on the bytes of a picture that reads, repeated until they come to an end.
-mod holders;
 mod steps;
 
 use chassis::End;
@@ -13,13 +12,6 @@ ghost use Rattle.chassis.proofs.Tree.{Sane};
 ghost use Rattle.trees.specs.Trees.{countOf, treeOf};
 ghost use Rattle.claims.specs.Claims.{chassisOf};
 ghost use Rattle.routes.specs.Routes.{Arrives};
-
-// Which ports of a place a rule looks at: those that hold the target, whose own it is, or that claim it.
-pub enum Regard {
-    Held,
-    Own,
-    Claimed,
-}
 
 // The ports crossed and the end.
 pub struct Walked {

@@ -1,14 +1,13 @@
 // The rules of the walk: what a packet does next.
-use crate::Regard;
-use crate::holders::lowest_at;
 use chassis::Conversion;
 use chassis::End;
 use chassis::Holders;
 use chassis::Packet;
 use chassis::Step;
 use chassis::Whereabouts;
+use holders::Regard;
+use holders::lowest_at;
 use ids::PortNo;
-use ids::Rid;
 use ids::Target;
 ghost use mathlib.Core.Path.{_≡_};
 ghost use Rattle.chassis.specs.Tree.{root};
@@ -33,7 +32,7 @@ fn function_number(s: &[u8], q: PortNo, t: Target) -> u8
     let Target::Id(rid) = t else {
         return 0;
     };
-    if claims::with_ari(s, q) {
+    if claims::with_ari_at(s, q) {
         (rid.0 % 256) as u8
     } else {
         (rid.0 % 8) as u8

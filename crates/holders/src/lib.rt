@@ -1,5 +1,4 @@
 // The ports of a place that have to do with a target: the two lowest.
-use crate::Regard;
 use chassis::Holders;
 use ids::PortNo;
 use ids::Target;
@@ -7,7 +6,14 @@ ghost use mathlib.Core.Path.{_≡_};
 ghost use Rattle.chassis.specs.Chassis.{withPort, passesAt, lowestAt};
 ghost use Rattle.trees.specs.Trees.{countOf};
 ghost use Rattle.claims.specs.Claims.{chassisOf};
-ghost use Rattle.routes.specs.Routes.{regards};
+ghost use Rattle.holders.specs.Holders.{regards};
+
+// Which ports of a place a rule looks at: those that hold the target, whose own it is, or that claim it.
+pub enum Regard {
+    Held,
+    Own,
+    Claimed,
+}
 
 fn regarded(s: &[u8], t: Target, regard: Regard, p: PortNo) -> bool
     ensures { λ r. ⌜ r ≡ regards regard (chassisOf (now (s .entry))) t (p .0) ⌝ }

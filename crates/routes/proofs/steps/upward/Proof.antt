@@ -1,0 +1,32 @@
+use borrow.Author.Needs.{needs}
+use Rattle.routes.proofs.steps.upward.Statement.{statement}
+use Rattle.routes.proofs.steps.upward.Tie as tie
+use Rattle.routes.proofs.steps.upward.Reads as reads
+use Rattle.routes.proofs.steps.upward.Lts as lts
+use Rattle.claims.proofs.claims.Reads as claims-reads
+use Rattle.routes.proofs.steps.up_to.Reads as up-to-reads
+use Rattle.trees.proofs.parent_at.Reads as parent-at-reads
+
+-- src/steps.rt:101:8
+claims-requires : tie.Need-claims-requires
+claims-requires c κs = search needs
+
+-- src/steps.rt:102:9
+returns : tie.Need-returns
+returns c = ?
+
+-- src/steps.rt:104:26
+parent-at-requires : tie.Need-parent-at-requires
+parent-at-requires c κs = search needs
+
+-- src/steps.rt:104:20
+up-to-requires : tie.Need-up-to-requires
+up-to-requires c κs = search needs
+
+-- src/steps.rt:98:1
+returns-2 : tie.Need-returns-2
+returns-2 c = ?
+
+pub upward-spec : {M : Type 1} → statement M
+upward-spec =
+    tie.close (tie.spec claims-requires returns parent-at-requires up-to-requires returns-2)
