@@ -8,7 +8,7 @@ use native.Mathlib.Omega.{arith}
 use Rattle.least.specs.declared.Found.{Found}
 use Rattle.least.specs.declared.Found.the-variants.{At, Nothing}
 use Rattle.least.specs.Least.{firstIn, soonest, isBy}
-use Rattle.least.proofs.Laws.{NoneIn, LeastAt, Within, is-at, is-none, at-is, none-is, none-join, none-within, first-agree, soonest-nothing, best-by}
+use Rattle.least.proofs.Laws.{NoneIn, LeastAt, Within, is-at, is-none, at-is, none-is, none-join, none-within, leap-more, first-agree, soonest-nothing, best-by}
 use Rattle.spans.specs.declared.Reach.{Reach}
 use Rattle.spans.specs.Reaches.{reaches, misses}
 use Rattle.search.specs.Search.{reachesIs, meets}
@@ -76,7 +76,7 @@ module _ (a : Reach) (va wa : List ℕ) (b : Reach) (vb wb : List ℕ) (want : B
         further = (at-left .from, at-right .from, at-right .below)
 
         pub to-right : NoneIn Both 0 k
-        to-right = none-join to-left (none-within within-b (at-right .first))
+        to-right = leap-more within-a within-b came at-left at-right
 
         found : k ≡ j → At k ≡ firstIn Both 0 (2 ^ 64)
         found same =

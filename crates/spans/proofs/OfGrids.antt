@@ -13,10 +13,10 @@ use borrow.Author.Tests.{le-leb, lt-leb, lt-ltb, le-ltb}
 use Rattle.least.specs.declared.Found.{Found}
 use Rattle.least.specs.declared.Found.the-variants.{At, Nothing}
 use Rattle.least.specs.Least.{firstIn, soonest, isBy}
-use Rattle.least.proofs.Laws.{NoneIn, LeastAt, Least, of-range, least-is, at-is, none-is, is-at, is-none, none-part, first-above, here-at, either-first, best-by, none-empty}
+use Rattle.least.proofs.Laws.{NoneIn, LeastAt, Least, of-range, least-is, at-is, none-is, is-at, is-none, none-part, first-above, here-at, either-first, best-by, none-empty, none-join}
 use Rattle.vectors.specs.declared.Settings.{Settings}
 use Rattle.vectors.specs.Vectors.{entryAt, isSet, entryIs, hits}
-use Rattle.vectors.proofs.Laws.{entrySet, hits-from, hits-below, grid-first, grid-at}
+use Rattle.vectors.proofs.Laws.{entrySet, hits-from, hits-below, grid-first, grid-at, grid-none}
 use Rattle.spans.specs.declared.grids.Grid.{Grid}
 use Rattle.spans.specs.Ranges.{inRange, outOf}
 use Rattle.spans.specs.Grids.{hitIn, missedIn, unset, beginsFrom, clipped}
@@ -102,13 +102,12 @@ module _ (v : List ℕ) (s : Settings) where
 
     pub hit-none : Nothing ≡ firstIn (entryIs v true) (entryAt s (max from (s .start))) (s .size)
         → Nothing ≡ firstIn (hits v s) from (2 ^ 64)
-    hit-none e = none-is (record { none = λ t l h. go t l (decLt t (s .start)) })
-      where
-        go : (t : ℕ) → from ≤ t → Dec (t < s .start) → hits v s t ≡ false
-        go t l (yes b) = hits-below v s t b
-        go t l (no b) =
-            hits-from v s t (omega arith)
-            ∙ set-none (is-none _ _ _ e) (entryAt s t) (shr-mono (s .scale) (omega arith))
+    hit-none e =
+        let beyond : 2 ^ 64 ≤ s .start + 2 ^ 64 * 2 ^ s .scale = omega (arith, pow-pos (s .scale)) in
+        none-is
+        (none-join before-hit
+        (grid-none (s .start) (2 ^ s .scale) (pow-pos (s .scale)) (hits v s) (entrySet v (s .size)) (hits-from v s) (omega arith) beyond
+        (record { none = λ i l h. set-none (is-none _ _ _ e) i l })))
 
 -- the next clear entry, or the first past the vector, leads to the next miss
 abbrev entryClear : List ℕ → ℕ → ℕ → Bool

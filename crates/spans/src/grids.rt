@@ -4,7 +4,7 @@ use crate::ranges::Range;
 use least::Found;
 use vectors::Settings;
 ghost use mathlib.Core.Path.{_≡_};
-ghost use Prim.Native.Nat.{_≤_, _<_, _^_};
+ghost use Prim.Native.Nat.{_<_, _^_};
 ghost use Rattle.least.specs.Least.{firstIn, soonest};
 ghost use Rattle.vectors.specs.Vectors.{hits};
 ghost use Rattle.spans.specs.Ranges.{onward};
@@ -16,6 +16,7 @@ pub struct Grid {
     pub settings: Settings,
 }
 
+// Whether a target lies within the range and is hit.
 pub fn hit_in(v: &[u8], g: Grid, t: u64) -> bool
     requires { ⌜ g .settings .scale < 64 ⌝ }
     ensures { λ r. ⌜ r ≡ hitIn (now (v .entry)) g t ⌝ }

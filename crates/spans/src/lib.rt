@@ -6,7 +6,7 @@ use crate::grids::Grid;
 use crate::ranges::Range;
 use least::Found;
 ghost use mathlib.Core.Path.{_≡_};
-ghost use Prim.Native.Nat.{_<_, _^_};
+ghost use Prim.Native.Nat.{_^_};
 ghost use Rattle.least.specs.Least.{firstIn};
 ghost use Rattle.spans.specs.Reaches.{fits, reaches, misses, skipped};
 
