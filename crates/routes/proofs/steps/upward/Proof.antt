@@ -1,3 +1,4 @@
+use Rattle.chassis.specs.Walk.{upward}
 use borrow.Author.Needs.{needs}
 use Rattle.routes.proofs.steps.upward.Statement.{statement}
 use Rattle.routes.proofs.steps.upward.Tie as tie
@@ -7,25 +8,27 @@ use Rattle.claims.proofs.claims.Reads as claims-reads
 use Rattle.routes.proofs.steps.up_to.Reads as up-to-reads
 use Rattle.trees.proofs.parent_at.Reads as parent-at-reads
 
--- src/steps.rt:101:8
+-- src/steps.rt:100:8
 claims-requires : tie.Need-claims-requires
 claims-requires c κs = search needs
 
--- src/steps.rt:102:9
+-- src/steps.rt:101:9
 returns : tie.Need-returns
-returns c = ?
+unfolding upward
+returns c = rw (← c .before .claims .ensures, c .if1 .taken)
 
--- src/steps.rt:104:26
+-- src/steps.rt:103:26
 parent-at-requires : tie.Need-parent-at-requires
 parent-at-requires c κs = search needs
 
--- src/steps.rt:104:20
+-- src/steps.rt:103:20
 up-to-requires : tie.Need-up-to-requires
 up-to-requires c κs = search needs
 
--- src/steps.rt:98:1
+-- src/steps.rt:97:1
 returns-2 : tie.Need-returns-2
-returns-2 c = ?
+unfolding upward
+returns-2 c = rw (← c .before .before .before .claims .ensures, c .before .before .if1 .left, ← c .before .parent-at .ensures, ← c .up-to .ensures)
 
 pub upward-spec : {M : Type 1} → statement M
 upward-spec =
