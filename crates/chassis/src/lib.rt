@@ -48,3 +48,12 @@ pub enum Step {
     Stop(End),
     Cross(PortNo, Whereabouts),
 }
+
+// What the check finds: numbers 11 and 12 with the least target and the first pair, 13 and 14 with the least target and
+// the port, 15 with the port.
+pub enum Verdict {
+    Clear,
+    Shared(Target, PortNo, PortNo),
+    Stray(Target, PortNo),
+    Lost(PortNo),
+}

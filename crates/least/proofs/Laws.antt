@@ -3,15 +3,15 @@
 use Prim.Native.Nat.{ℕ, zero, suc, _+_, _-_, _≤_, _<_}
 use mathlib.Core.Path.{_≡_, refl, sym, _∙_, subst}
 use mathlib.Core.Bool.{Bool, true, false, cond, _||_}
-use mathlib.Core.Logic.{_↔_, ⊎-elim}
+use mathlib.Core.Logic.{_↔_}
 use native.Mathlib.Decide.{decLe, decLt}
-use native.Mathlib.Nat.{le-refl, eq-or-lt-of-le}
+use native.Mathlib.Nat.{le-refl}
 use native.Mathlib.Omega.{arith}
-use borrow.Author.Tests.{le-leb, lt-leb}
 use lib.Dec.{leb}
+use borrow.Author.Tests.{le-leb, lt-leb, leb-true}
 use Rattle.least.specs.declared.Found.{Found}
 use Rattle.least.specs.declared.Found.the-variants.{At, Nothing}
-use Rattle.least.specs.Least.{firstOf, firstIn, soonest}
+use Rattle.least.specs.Least.{firstOf, firstIn, soonest, isBy}
 
 -- no number from `lo` on and below `hi` passes
 pub record NoneIn (p : ℕ → Bool) (lo hi : ℕ) : Type 0 where
@@ -231,3 +231,8 @@ best-stays {p} {lo} {b} hi none = go (firstIn p lo hi) (of-range p lo hi)
         after : Dec (b ≤ n) → cond (leb b n) (At b) (At n) ≡ At b
         after (yes l) = rw (le-leb b n l)
         after (no l) = absurd (not-both (a .holds) (none .none n (a .from) (omega arith)))
+
+pub best-by : {p : ℕ → Bool} {lo n : ℕ} (best : Found) (hi : ℕ) → isBy best n ≡ true → NoneIn p lo n → best ≡ soonest best (firstIn p lo hi)
+unfolding isBy
+best-by (At b) hi e none = sym (best-stays hi (none-part (le-refl _) (leb-true b _ e) none))
+best-by Nothing hi e none = absurd (let z : _≡_ {A = ℕ} 0 1 = cc in omega arith)

@@ -1,6 +1,6 @@
 -- The lowest number with a property. The definition says what it is and is never run: code is proved equal to it by laws.
 use Prim.Native.Nat.{ℕ, zero, suc, _-_}
-use mathlib.Core.Bool.{Bool, cond}
+use mathlib.Core.Bool.{Bool, false, cond}
 use lib.Dec.{leb}
 use Rattle.least.specs.declared.Found.{Found}
 use Rattle.least.specs.declared.Found.the-variants.{At, Nothing}
@@ -24,3 +24,8 @@ soonest (At i) (At j) = cond (leb i j) (At i) (At j)
 abbrev pub orElse : Found → Found → Found
 orElse (At i) second = At i
 orElse Nothing second = second
+
+-- a finding no later than a number
+unfoldable pub isBy : Found → ℕ → Bool
+isBy (At i) n = leb i n
+isBy Nothing n = false

@@ -1,6 +1,6 @@
 // The answer of every search for the lowest number: a port, an entry or a target.
 ghost use mathlib.Core.Path.{_≡_};
-ghost use Rattle.least.specs.Least.{soonest};
+ghost use Rattle.least.specs.Least.{soonest, isBy};
 
 pub enum Found {
     At(u64),
@@ -17,5 +17,15 @@ pub fn sooner(a: Found, b: Found) -> Found
             Found::Nothing => Found::At(i),
             Found::At(j) => { if i <= j { Found::At(i) } else { Found::At(j) } }
         },
+    }
+}
+
+// Whether a finding is no later than a number.
+pub fn is_by(found: Found, n: u64) -> bool
+    ensures { λ r. ⌜ r ≡ isBy found n ⌝ }
+{
+    match found {
+        Found::At(i) => i <= n,
+        Found::Nothing => false,
     }
 }

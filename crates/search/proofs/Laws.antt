@@ -1,19 +1,17 @@
 -- Laws of the search for the least target of two reaches: what each turn of it shows.
 -- Assumes nothing.
-use Prim.Native.Nat.{ℕ, _-_, _^_, _≤_, _<_}
+use Prim.Native.Nat.{ℕ, _^_, _≤_, _<_}
 use mathlib.Core.Path.{_≡_, refl, sym, _∙_, ap}
 use mathlib.Core.Bool.{Bool, true, false, not, _&&_, Bool·beq}
 use mathlib.Core.List.{List}
-use native.Mathlib.Nat.{le-refl}
 use native.Mathlib.Omega.{arith}
-use borrow.Author.Tests.{leb-true}
 use Rattle.least.specs.declared.Found.{Found}
 use Rattle.least.specs.declared.Found.the-variants.{At, Nothing}
-use Rattle.least.specs.Least.{firstIn, soonest}
-use Rattle.least.proofs.Laws.{NoneIn, LeastAt, Within, is-at, is-none, at-is, none-is, none-part, none-join, none-within, first-agree, soonest-nothing, best-stays}
+use Rattle.least.specs.Least.{firstIn, soonest, isBy}
+use Rattle.least.proofs.Laws.{NoneIn, LeastAt, Within, is-at, is-none, at-is, none-is, none-join, none-within, leap-more, first-agree, soonest-nothing, best-by}
 use Rattle.spans.specs.declared.Reach.{Reach}
 use Rattle.spans.specs.Reaches.{reaches, misses}
-use Rattle.search.specs.Search.{reachesIs, meets, isBy}
+use Rattle.search.specs.Search.{reachesIs, meets}
 
 -- "as wanted" is reached, or not reached
 module _ (d : Reach) (v w : List ℕ) (from : ℕ) where
@@ -78,7 +76,7 @@ module _ (a : Reach) (va wa : List ℕ) (b : Reach) (vb wb : List ℕ) (want : B
         further = (at-left .from, at-right .from, at-right .below)
 
         pub to-right : NoneIn Both 0 k
-        to-right = none-join to-left (none-within within-b (at-right .first))
+        to-right = leap-more within-a within-b came at-left at-right
 
         found : k ≡ j → At k ≡ firstIn Both 0 (2 ^ 64)
         found same =
@@ -107,9 +105,4 @@ module _ (a : Reach) (va wa : List ℕ) (b : Reach) (vb wb : List ℕ) (want : B
       ends-found right same = ap (soonest best) (found came left right same)
 
       pub ends-best : isBy best j ≡ true → best ≡ soonest best (firstIn Both 0 (2 ^ 64))
-      unfolding isBy
-      ends-best = go best
-        where
-          go : (f : Found) → isBy f j ≡ true → f ≡ soonest f (firstIn Both 0 (2 ^ 64))
-          go (At n) e = sym (best-stays (2 ^ 64) (none-part (le-refl 0) (leb-true n j e) (to-left came left)))
-          go Nothing e = absurd (let z : _≡_ {A = ℕ} 0 1 = cc in omega arith)
+      ends-best e = best-by best (2 ^ 64) e (to-left came left)

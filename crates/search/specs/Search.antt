@@ -1,10 +1,7 @@
 -- What two reaches have in common, or the first has alone.
 use Prim.Native.Nat.{ℕ}
-use mathlib.Core.Bool.{Bool, false, _&&_, Bool·beq}
+use mathlib.Core.Bool.{Bool, _&&_, Bool·beq}
 use mathlib.Core.List.{List}
-use lib.Dec.{leb}
-use Rattle.least.specs.declared.Found.{Found}
-use Rattle.least.specs.declared.Found.the-variants.{At, Nothing}
 use Rattle.spans.specs.declared.Reach.{Reach}
 use Rattle.spans.specs.Reaches.{reaches}
 
@@ -15,8 +12,3 @@ reachesIs d v w want t = Bool·beq (reaches d v w t) want
 -- a target that a reaches, and that b reaches or does not, as is wanted
 unfoldable pub meets : Reach → List ℕ → List ℕ → Reach → List ℕ → List ℕ → Bool → ℕ → Bool
 meets a va wa b vb wb want t = reaches a va wa t && reachesIs b vb wb want t
-
--- a finding no later than a target
-unfoldable pub isBy : Found → ℕ → Bool
-isBy (At i) t = leb i t
-isBy Nothing t = false

@@ -5,7 +5,7 @@ ghost use mathlib.Core.Path.{_≡_};
 ghost use Prim.Native.Nat.{_^_};
 ghost use Rattle.least.specs.Least.{firstIn, soonest};
 ghost use Rattle.spans.specs.Reaches.{fits};
-ghost use Rattle.search.specs.Search.{reachesIs, isBy, meets};
+ghost use Rattle.search.specs.Search.{reachesIs, meets};
 
 // The next target that is reached, or, where that is wanted, that is not.
 fn next_where(d: Reach, v: &[u8], w: &[u8], want: bool, from: u64) -> Found
@@ -16,16 +16,6 @@ fn next_where(d: Reach, v: &[u8], w: &[u8], want: bool, from: u64) -> Found
         spans::next_reached(d, v, w, from)
     } else {
         spans::next_unreached(d, v, w, from)
-    }
-}
-
-// Whether a finding is no later than a target.
-fn is_by(found: Found, t: u64) -> bool
-    ensures { λ r. ⌜ r ≡ isBy found t ⌝ }
-{
-    match found {
-        Found::At(i) => i <= t,
-        Found::Nothing => false,
     }
 }
 
@@ -49,7 +39,7 @@ pub fn least_both(
         let Found::At(j) = spans::next_reached(a, va, wa, i) else {
             return best;
         };
-        if is_by(best, j) {
+        if least::is_by(best, j) {
             return best;
         }
         let Found::At(k) = next_where(b, vb, wb, want, j) else {

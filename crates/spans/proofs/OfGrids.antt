@@ -1,7 +1,7 @@
 -- Laws of grids: from the lowest entry that is set, or clear, to the lowest target that is hit, or missed.
 -- Assumes nothing.
 use Prim.Native.Nat.{ℕ, suc, _+_, _-_, _*_, _/_, _%_, _^_, _≤_, _<_, max}
-use mathlib.Core.Path.{_≡_, refl, sym, _∙_, ap}
+use mathlib.Core.Path.{_≡_, refl, _∙_}
 use mathlib.Core.Bool.{Bool, true, false, not, cond, _&&_, _||_, Bool·beq}
 use mathlib.Core.List.{List}
 use native.Mathlib.Decide.{decLe, decLt}
@@ -12,12 +12,11 @@ use lib.Pow.{pow-pos, shr-mono}
 use borrow.Author.Tests.{le-leb, lt-leb, lt-ltb, le-ltb}
 use Rattle.least.specs.declared.Found.{Found}
 use Rattle.least.specs.declared.Found.the-variants.{At, Nothing}
-use Rattle.least.specs.Least.{firstIn, soonest}
-use Rattle.least.proofs.Laws.{NoneIn, LeastAt, Least, of-range, least-is, at-is, none-is, is-at, is-none, none-part, first-above, here-at, either-first}
+use Rattle.least.specs.Least.{firstIn, soonest, isBy}
+use Rattle.least.proofs.Laws.{NoneIn, LeastAt, Least, of-range, least-is, at-is, none-is, is-at, is-none, none-part, first-above, here-at, either-first, best-by, none-empty, none-join}
 use Rattle.vectors.specs.declared.Settings.{Settings}
 use Rattle.vectors.specs.Vectors.{entryAt, isSet, entryIs, hits}
-use Rattle.vectors.proofs.Laws.{entrySet, hits-from, hits-below, grid-first, grid-at}
-use Rattle.spans.specs.declared.ranges.Range.{Range}
+use Rattle.vectors.proofs.Laws.{entrySet, hits-from, hits-below, grid-first, grid-at, grid-none}
 use Rattle.spans.specs.declared.grids.Grid.{Grid}
 use Rattle.spans.specs.Ranges.{inRange, outOf}
 use Rattle.spans.specs.Grids.{hitIn, missedIn, unset, beginsFrom, clipped}
@@ -103,13 +102,12 @@ module _ (v : List ℕ) (s : Settings) where
 
     pub hit-none : Nothing ≡ firstIn (entryIs v true) (entryAt s (max from (s .start))) (s .size)
         → Nothing ≡ firstIn (hits v s) from (2 ^ 64)
-    hit-none e = none-is (record { none = λ t l h. go t l (decLt t (s .start)) })
-      where
-        go : (t : ℕ) → from ≤ t → Dec (t < s .start) → hits v s t ≡ false
-        go t l (yes b) = hits-below v s t b
-        go t l (no b) =
-            hits-from v s t (omega arith)
-            ∙ set-none (is-none _ _ _ e) (entryAt s t) (shr-mono (s .scale) (omega arith))
+    hit-none e =
+        let beyond : 2 ^ 64 ≤ s .start + 2 ^ 64 * 2 ^ s .scale = omega (arith, pow-pos (s .scale)) in
+        none-is
+        (none-join before-hit
+        (grid-none (s .start) (2 ^ s .scale) (pow-pos (s .scale)) (hits v s) (entrySet v (s .size)) (hits-from v s) (omega arith) beyond
+        (record { none = λ i l h. set-none (is-none _ _ _ e) i l })))
 
 -- the next clear entry, or the first past the vector, leads to the next miss
 abbrev entryClear : List ℕ → ℕ → ℕ → Bool
@@ -177,7 +175,8 @@ module _ (v : List ℕ) (s : Settings) where
             })
 
 -- a finding that is cut off above `hi`
-clip-first : (p q : ℕ → Bool) (from hi : ℕ) → ((t : ℕ) → from ≤ t → q t ≡ (leb t hi && p t)) → clipped (firstIn p from (2 ^ 64)) hi ≡ firstIn q from (2 ^ 64)
+clip-first : (p q : ℕ → Bool) (from hi : ℕ) → ((t : ℕ) → from ≤ t → q t ≡ (leb t hi && p t))
+    → clipped (firstIn p from (2 ^ 64)) hi ≡ firstIn q from (2 ^ 64)
 unfolding clipped
 clip-first p q from hi and = least-is q from (2 ^ 64) (clipped (firstIn p from (2 ^ 64)) hi) (go (firstIn p from (2 ^ 64)) (of-range p from (2 ^ 64)))
   where
@@ -216,6 +215,10 @@ module _ (v : List ℕ) (g : Grid) (from : ℕ) where
   unfolding hitIn
   before-within = record { none = λ t l h. rw (below (g .within) t (omega arith)) }
 
+  -- the best so far comes no later than the range, or than where the search begins
+  pub hit-in-best : (best : Found) → isBy best (max from (g .within .lo)) ≡ true → best ≡ soonest best (firstIn (hitIn v g) from (2 ^ 64))
+  hit-in-best best e = best-by best (2 ^ 64) e before-within
+
   pub hit-in : clipped (firstIn (hits v (g .settings)) (max from (g .within .lo)) (2 ^ 64)) (g .within .hi) ≡ firstIn (hitIn v g) from (2 ^ 64)
   hit-in =
       clip-first (hits v (g .settings)) (hitIn v g) (max from (g .within .lo)) (g .within .hi) (λ t l. hit-within t (omega arith))
@@ -227,3 +230,8 @@ module _ (v : List ℕ) (g : Grid) (from : ℕ) where
 
   pub miss-in : soonest (firstIn (outOf (g .within)) from (2 ^ 64)) (firstIn (unset v (g .settings)) from (2 ^ 64)) ≡ firstIn (missedIn v g) from (2 ^ 64)
   miss-in = either-first _ _ from (2 ^ 64) missed-or
+
+  -- out of the range where the search begins
+  pub miss-in-out : isBy (firstIn (outOf (g .within)) from (2 ^ 64)) from ≡ true
+      → firstIn (outOf (g .within)) from (2 ^ 64) ≡ firstIn (missedIn v g) from (2 ^ 64)
+  miss-in-out e = best-by (firstIn (outOf (g .within)) from (2 ^ 64)) (2 ^ 64) e (none-empty {p = unset v (g .settings)} (le-refl from)) ∙ miss-in

@@ -1,16 +1,16 @@
 -- Laws of what a port reaches: the next of four, and the skips past what is reached.
 -- Assumes nothing.
 use Prim.Native.Nat.{ℕ, _^_, _≤_, _<_}
-use mathlib.Core.Path.{_≡_, refl, sym, _∙_, ap, subst}
-use mathlib.Core.Bool.{Bool, true, false, not, _||_}
+use mathlib.Core.Path.{_≡_, refl, sym, ap, subst}
+use mathlib.Core.Bool.{Bool, true, false, _||_}
 use mathlib.Core.List.{List}
-use native.Mathlib.Nat.{le-refl, le-trans, le-antisymm}
+use native.Mathlib.Nat.{le-trans, le-antisymm}
 use native.Mathlib.Omega.{arith}
 use borrow.Author.Tests.{not-true, not-false}
 use Rattle.least.specs.declared.Found.{Found}
 use Rattle.least.specs.declared.Found.the-variants.{At, Nothing}
 use Rattle.least.specs.Least.{firstIn, soonest}
-use Rattle.least.proofs.Laws.{NoneIn, LeastAt, Least, Within, of-range, is-at, at-is, none-is, none-join, none-within, either-first}
+use Rattle.least.proofs.Laws.{NoneIn, Least, Within, of-range, is-at, at-is, none-is, none-join, none-within, either-first}
 use Rattle.spans.specs.declared.Reach.{Reach}
 use Rattle.spans.specs.Ranges.{inRange, outOf, onward}
 use Rattle.spans.specs.Grids.{hitIn, missedIn}
@@ -19,6 +19,10 @@ use Rattle.spans.specs.Reaches.{onRanges, onGrids, reaches, misses, skip
 or-right : (a : Bool) → (a || true) ≡ true
 or-right true = refl
 or-right false = refl
+
+or-assoc : (a b c : Bool) → (a || (b || c)) ≡ (a || b || c)
+or-assoc true b c = refl
+or-assoc false b c = refl
 
 -- where a finding stands that no r was passed for, from `i` on
 abbrev Passed : (ℕ → Bool) → ℕ → Found → Type 0
@@ -49,29 +53,34 @@ stayed r p i (At j) a e =
     (ap At same, b .holds)
 
 module _ (d : Reach) (v w : List ℕ) where
+  -- on a range, or hit in the one grid
+  abbrev withOne : ℕ → Bool
+  withOne t = onRanges d t || hitIn v (d .one) t
+
   either-range : (t : ℕ) → onRanges d t ≡ (inRange (d .first) t || inRange (d .second) t)
   unfolding onRanges
   either-range t = refl
 
-  either-grid : (t : ℕ) → onGrids d v w t ≡ (hitIn v (d .one) t || hitIn w (d .other) t)
-  unfolding onGrids
-  either-grid t = refl
+  either-one : (t : ℕ) → withOne t ≡ (onRanges d t || hitIn v (d .one) t)
+  either-one t = refl
 
-  either-kind : (t : ℕ) → reaches d v w t ≡ (onRanges d t || onGrids d v w t)
-  unfolding reaches
-  either-kind t = refl
+  either-other : (t : ℕ) → reaches d v w t ≡ (withOne t || hitIn w (d .other) t)
+  unfolding reaches onGrids
+  either-other t = or-assoc (onRanges d t) (hitIn v (d .one) t) (hitIn w (d .other) t)
 
-  -- the sooner of the four
+  -- the soonest of the four
   pub reach-first : (from : ℕ)
-      → soonest (soonest (firstIn (inRange (d .first)) from (2 ^ 64)) (firstIn (inRange (d .second)) from (2 ^ 64)))
-      (soonest (firstIn (hitIn v (d .one)) from (2 ^ 64)) (firstIn (hitIn w (d .other)) from (2 ^ 64)))
+      → soonest
+      (soonest (soonest (firstIn (inRange (d .first)) from (2 ^ 64)) (firstIn (inRange (d .second)) from (2 ^ 64)))
+      (firstIn (hitIn v (d .one)) from (2 ^ 64)))
+      (firstIn (hitIn w (d .other)) from (2 ^ 64))
       ≡ firstIn (reaches d v w) from (2 ^ 64)
   reach-first from =
       rw (
         either-first (inRange (d .first)) (inRange (d .second)) from (2 ^ 64) either-range,
-        either-first (hitIn v (d .one)) (hitIn w (d .other)) from (2 ^ 64) either-grid,
+        either-first {r = withOne} (onRanges d) (hitIn v (d .one)) from (2 ^ 64) either-one,
       )
-      (either-first (onRanges d) (onGrids d v w) from (2 ^ 64) either-kind)
+      (either-first withOne (hitIn w (d .other)) from (2 ^ 64) either-other)
 
   -- what lies in a range or is hit is reached
   within-first : Within (misses d v w) (outOf (d .first))
@@ -90,7 +99,8 @@ module _ (d : Reach) (v w : List ℕ) where
   unfolding misses reaches onGrids missedIn
   within-other t e = rw (not-false (hitIn w (d .other) t) e, or-right, or-right)
 
-  none-reached : (t : ℕ) → outOf (d .first) t ≡ true → outOf (d .second) t ≡ true → missedIn v (d .one) t ≡ true → missedIn w (d .other) t ≡ true
+  none-reached : (t : ℕ) → outOf (d .first) t ≡ true → outOf (d .second) t ≡ true
+      → missedIn v (d .one) t ≡ true → missedIn w (d .other) t ≡ true
       → misses d v w t ≡ true
   unfolding misses reaches onRanges onGrids outOf missedIn
   none-reached t a b x y =

@@ -4,8 +4,8 @@ use crate::ranges::Range;
 use least::Found;
 use vectors::Settings;
 ghost use mathlib.Core.Path.{_≡_};
-ghost use Prim.Native.Nat.{_≤_, _<_, _^_};
-ghost use Rattle.least.specs.Least.{firstIn};
+ghost use Prim.Native.Nat.{_<_, _^_};
+ghost use Rattle.least.specs.Least.{firstIn, soonest};
 ghost use Rattle.vectors.specs.Vectors.{hits};
 ghost use Rattle.spans.specs.Ranges.{onward};
 ghost use Rattle.spans.specs.Grids.{beginsFrom, clipped, unset, hitIn, missedIn};
@@ -16,6 +16,7 @@ pub struct Grid {
     pub settings: Settings,
 }
 
+// Whether a target lies within the range and is hit.
 pub fn hit_in(v: &[u8], g: Grid, t: u64) -> bool
     requires { ⌜ g .settings .scale < 64 ⌝ }
     ensures { λ r. ⌜ r ≡ hitIn (now (v .entry)) g t ⌝ }
@@ -77,27 +78,29 @@ fn clip(found: Found, hi: u64) -> Found
     }
 }
 
-// The next target within the range that is hit.
-pub fn next_hit_in(v: &[u8], g: Grid, from: u64) -> Found
+// The next target within the range that is hit, or the best so far, if that is sooner; the vector is read only if it can be.
+pub fn next_hit_in(v: &[u8], g: Grid, from: u64, best: Found) -> Found
     requires { ⌜ g .settings .scale < 64 ⌝ }
-    ensures { λ r. ⌜ r ≡ firstIn (hitIn (now (v .entry)) g) from (2 ^ 64) ⌝ }
+    ensures { λ r. ⌜ r ≡ soonest best (firstIn (hitIn (now (v .entry)) g) from (2 ^ 64)) ⌝ }
 {
     let within = g.within;
-    clip(
-        next_hit(v, g.settings, ranges::later(from, within.lo)),
-        within.hi,
-    )
+    let f = ranges::later(from, within.lo);
+    if least::is_by(best, f) {
+        return best;
+    }
+    least::sooner(best, clip(next_hit(v, g.settings, f), within.hi))
 }
 
-// The next target out of the range, or missed.
+// The next target out of the range, or missed; the vector is read only within the range.
 pub fn next_miss_in(v: &[u8], g: Grid, from: u64) -> Found
     requires { ⌜ g .settings .scale < 64 ⌝ }
     ensures { λ r. ⌜ r ≡ firstIn (missedIn (now (v .entry)) g) from (2 ^ 64) ⌝ }
 {
-    least::sooner(
-        ranges::next_out(g.within, from),
-        next_miss(v, g.settings, from),
-    )
+    let out = ranges::next_out(g.within, from);
+    if least::is_by(out, from) {
+        return out;
+    }
+    least::sooner(out, next_miss(v, g.settings, from))
 }
 
 // The same, from what was found before.

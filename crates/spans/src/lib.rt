@@ -6,7 +6,7 @@ use crate::grids::Grid;
 use crate::ranges::Range;
 use least::Found;
 ghost use mathlib.Core.Path.{_≡_};
-ghost use Prim.Native.Nat.{_<_, _^_};
+ghost use Prim.Native.Nat.{_^_};
 ghost use Rattle.least.specs.Least.{firstIn};
 ghost use Rattle.spans.specs.Reaches.{fits, reaches, misses, skipped};
 
@@ -36,11 +36,8 @@ pub fn next_reached(d: Reach, v: &[u8], w: &[u8], from: u64) -> Found
         ranges::next_in(d.first, from),
         ranges::next_in(d.second, from),
     );
-    let on_grids = least::sooner(
-        grids::next_hit_in(v, d.one, from),
-        grids::next_hit_in(w, d.other, from),
-    );
-    least::sooner(on_ranges, on_grids)
+    let with_one = grids::next_hit_in(v, d.one, from, on_ranges);
+    grids::next_hit_in(w, d.other, from, with_one)
 }
 
 // From a target out of the first range, from there out of the second, and past the grids in the same way: the same target

@@ -11,6 +11,7 @@ pub struct Range {
     pub hi: u64,
 }
 
+// Whether a target lies in a range.
 pub fn contains(r: Range, t: u64) -> bool
     ensures { λ x. ⌜ x ≡ inRange r t ⌝ }
 {

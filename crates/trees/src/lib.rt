@@ -3,7 +3,7 @@ use ids::PortNo;
 ghost use mathlib.Core.Path.{_≡_};
 ghost use Rattle.chassis.specs.Tree.{hasChildBelow, isDevicePort, upstreamBroken, downstreamBroken, treeBroken, oneAbove, chainTooLong};
 ghost use Rattle.registers.specs.Record.{portAt};
-ghost use Rattle.trees.specs.Trees.{treeOf};
+ghost use Rattle.trees.specs.Trees.{countOf, treeOf};
 
 pub fn kind_at(s: &[u8], p: PortNo) -> u8
     ensures { λ r. ⌜ r ≡ portAt (now (s .entry)) (p .0) .kind ⌝ }
@@ -28,6 +28,14 @@ pub fn has_child_below(s: &[u8], n: u8, q: PortNo) -> bool
         p += 1;
     }
     found
+}
+
+// A root or downstream port without a child, where n is the count of ports.
+pub fn is_device_port(s: &[u8], n: u8, p: PortNo) -> bool
+    requires { ⌜ n ≡ countOf (now s) ⌝ }
+    ensures { λ r. ⌜ r ≡ isDevicePort (treeOf (now (s .entry))) (p .0) ⌝ }
+{
+    (p.0 < n) & !(kind_at(s, p) == 1) & !has_child_below(s, n, p)
 }
 
 fn upstream_broken(s: &[u8], p: PortNo) -> bool

@@ -1,7 +1,7 @@
 -- Laws of vectors, over size, start and scale.
 -- Assumes nothing.
-use Prim.Native.Nat.{ℕ, suc, _+_, _-_, _*_, _/_, _^_, _≤_, _<_, max}
-use mathlib.Core.Path.{_≡_, refl, sym, _∙_, subst}
+use Prim.Native.Nat.{ℕ, suc, _+_, _-_, _*_, _/_, _≤_, _<_, max}
+use mathlib.Core.Path.{_≡_, refl, _∙_}
 use mathlib.Core.Bool.{Bool, true, false, cond, _&&_}
 use mathlib.Core.List.{List}
 use native.Mathlib.Nat.{le-trans, suc-mul, le-div-iff-mul-le, div-lt-iff-lt-mul, div-mul-le-self}
@@ -9,10 +9,9 @@ use native.Mathlib.Omega.{arith}
 use lib.Dec.{ltb}
 use borrow.Author.Tests.{le-leb, lt-leb}
 use Rattle.least.proofs.Laws.{NoneIn, LeastAt}
-use Rattle.least.specs.declared.Found.{Found}
 use Rattle.least.specs.declared.Found.the-variants.{At, Nothing}
 use Rattle.vectors.specs.declared.Settings.{Settings}
-use Rattle.vectors.specs.Vectors.{applies, entryAt, entryOf, isSet, entryIs, hits}
+use Rattle.vectors.specs.Vectors.{applies, entryAt, entryOf, isSet, hits}
 
 -- a target is hit exactly if the entry that applies to it is set
 pub hits-entry : (v : List ℕ) (g : Settings) (t : ℕ) {i : ℕ} → At i ≡ entryOf g t → isSet v i ≡ hits v g t

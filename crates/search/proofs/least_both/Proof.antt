@@ -1,19 +1,14 @@
-use borrow.Author.Needs.{needs}
+-- The loop has passed no target that both have as wanted, below `i`.
 use Prim.Native.Nat.{_-_, _^_}
 use mathlib.Core.Path.{sym, _∙_}
 use native.Mathlib.Nat.{le-refl}
 use native.Mathlib.Omega.{arith}
+use borrow.Author.Needs.{needs}
 use Rattle.least.proofs.Laws.{NoneIn, none-empty}
 use Rattle.search.specs.Search.{meets}
 use Rattle.search.proofs.Laws.{further, to-right, ends-left, ends-right, ends-found, ends-best}
 use Rattle.search.proofs.least_both.Statement.{statement}
 use Rattle.search.proofs.least_both.Tie as tie
-use Rattle.search.proofs.least_both.Reads as reads
-use Rattle.search.proofs.least_both.Lts as lts
-use Rattle.least.proofs.sooner.Reads as sooner-reads
-use Rattle.search.proofs.is_by.Reads as is-by-reads
-use Rattle.search.proofs.next_where.Reads as next-where-reads
-use Rattle.spans.proofs.next_reached.Reads as next-reached-reads
 
 abbrev Inv-loop : tie.InvT-loop
 Inv-loop a va wa b vb wb want best i₀ i = NoneIn (meets a va wa b vb wb want) 0 i
@@ -21,63 +16,53 @@ Inv-loop a va wa b vb wb want best i₀ i = NoneIn (meets a va wa b vb wb want) 
 abbrev μ-loop : tie.MeasureT-loop
 μ-loop a va wa b vb wb want best i₀ i = 2 ^ 64 - i
 
--- src/lib.rt:41:5
 loop-holds : tie.Need-loop-holds Inv-loop μ-loop
 loop-holds c = none-empty (le-refl 0)
 
--- src/lib.rt:42:28
 next-reached-requires : tie.Need-next-reached-requires Inv-loop μ-loop
 next-reached-requires c κs = search needs
 
--- src/lib.rt:42:23
 enum-known-j : tie.Need-enum-known-j Inv-loop μ-loop
 enum-known-j c = search needs
 
--- src/lib.rt:43:13
 enum-told : tie.Need-enum-told Inv-loop μ-loop
 enum-told c = search needs
 
--- src/lib.rt:43:13
 returns : tie.Need-returns Inv-loop μ-loop
 returns c = ends-left _ _ _ _ _ _ _ _ (c .before .before .before .loop .inv) (sym (c .enum-told .given .1) ∙ c .before .before .next-reached .ensures)
 
--- src/lib.rt:45:12
 is-by-requires : tie.Need-is-by-requires Inv-loop μ-loop
 is-by-requires c κs = search needs
 
--- src/lib.rt:46:13
 returns-2 : tie.Need-returns-2 Inv-loop μ-loop
-returns-2 c = let at = c .before .before in
+returns-2 c =
+    let at = c .before .before in
     ends-best _ _ _ _ _ _ _ _ (at .before .before .before .before .loop .inv)
     (sym (at .before .j .given .1) ∙ at .before .before .before .next-reached .ensures)
     (sym (c .before .is-by .ensures) ∙ c .if1 .taken)
 
--- src/lib.rt:48:28
 next-where-requires : tie.Need-next-where-requires Inv-loop μ-loop
 next-where-requires c κs = search needs
 
--- src/lib.rt:48:23
 enum-known-k : tie.Need-enum-known-k Inv-loop μ-loop
 enum-known-k c = search needs
 
--- src/lib.rt:49:13
 enum-told-2 : tie.Need-enum-told-2 Inv-loop μ-loop
 enum-told-2 c = search needs
 
--- src/lib.rt:49:13
 returns-3 : tie.Need-returns-3 Inv-loop μ-loop
-returns-3 c = let at = c .before .before .before .before .before in
+returns-3 c =
+    let at = c .before .before .before .before .before in
     ends-right _ _ _ _ _ _ _ _ (at .before .before .before .before .loop .inv)
     (sym (at .before .j .given .1) ∙ at .before .before .before .next-reached .ensures)
     (sym (c .enum-told2 .given .1) ∙ c .before .before .next-where .ensures)
 
--- src/lib.rt:52:13
 sooner-requires : tie.Need-sooner-requires Inv-loop μ-loop
 sooner-requires c κs = search needs
 
--- src/lib.rt:52:13
 returns-4 : tie.Need-returns-4 Inv-loop μ-loop
-returns-4 c = let at = c .before .before .before .before .before .before .before .before in
+returns-4 c =
+    let at = c .before .before .before .before .before .before .before .before in
     let loop = at .before .before .before .before in
     c .sooner .ensures
     ∙ ends-found _ _ _ _ _ _ _ (loop .before .before .before .before .before .args .best) (loop .loop .inv)
@@ -85,17 +70,17 @@ returns-4 c = let at = c .before .before .before .before .before .before .before
     (sym (c .before .before .before .k .given .1) ∙ c .before .before .before .before .before .next-where .ensures)
     (c .before .if2 .taken)
 
--- src/lib.rt:41:5
 loop-less : tie.Need-loop-less Inv-loop μ-loop
-loop-less c = let at = c .before .before .before .before .before .before .before in
+loop-less c =
+    let at = c .before .before .before .before .before .before .before in
     let on = further _ _ _ _ _ _ _ (at .before .before .before .before .loop .inv)
     (sym (at .before .j .given .1) ∙ at .before .before .before .next-reached .ensures)
     (sym (c .before .before .k .given .1) ∙ c .before .before .before .before .next-where .ensures) in
     omega (arith, on, c .if2 .left)
 
--- src/lib.rt:41:5
 loop-again : tie.Need-loop-again Inv-loop μ-loop
-loop-again c = let at = c .before .before .before .before .before .before .before in
+loop-again c =
+    let at = c .before .before .before .before .before .before .before in
     to-right _ _ _ _ _ _ _ (at .before .before .before .before .loop .inv)
     (sym (at .before .j .given .1) ∙ at .before .before .before .next-reached .ensures)
     (sym (c .before .before .k .given .1) ∙ c .before .before .before .before .next-where .ensures)

@@ -1,26 +1,18 @@
 use mathlib.Core.Path.{_∙_}
-use Rattle.search.proofs.Laws.{wanted, unwanted}
 use borrow.Author.Needs.{needs}
+use Rattle.search.proofs.Laws.{wanted, unwanted}
 use Rattle.search.proofs.next_where.Statement.{statement}
 use Rattle.search.proofs.next_where.Tie as tie
-use Rattle.search.proofs.next_where.Reads as reads
-use Rattle.search.proofs.next_where.Lts as lts
-use Rattle.spans.proofs.next_reached.Reads as next-reached-reads
-use Rattle.spans.proofs.next_unreached.Reads as next-unreached-reads
 
--- src/lib.rt:16:9
 next-reached-requires : tie.Need-next-reached-requires
 next-reached-requires c κs = search needs
 
--- src/lib.rt:18:9
 next-unreached-requires : tie.Need-next-unreached-requires
 next-unreached-requires c κs = search needs
 
--- src/lib.rt:11:1
 returns : tie.Need-returns
 returns c = rw (c .before .if1 .taken) (c .next-reached .ensures ∙ wanted _ _ _ _)
 
--- src/lib.rt:11:1
 returns-2 : tie.Need-returns-2
 returns-2 c = rw (c .before .if1 .left) (c .next-unreached .ensures ∙ unwanted _ _ _ _)
 

@@ -1,16 +1,14 @@
-use borrow.Author.Needs.{needs}
+-- The loop has passed nothing but what is reached, from `from` on and below `i`.
 use Prim.Native.Nat.{_≤_, _-_, _^_}
 use mathlib.Core.Path.{sym, _∙_}
 use native.Mathlib.Nat.{le-refl}
 use native.Mathlib.Omega.{arith}
+use borrow.Author.Needs.{needs}
 use Rattle.least.proofs.Laws.{NoneIn, none-empty}
 use Rattle.spans.specs.Reaches.{misses}
 use Rattle.spans.proofs.OfReaches.{skip-at, skip-more, skip-found, skip-none}
 use Rattle.spans.proofs.next_unreached.Statement.{statement}
 use Rattle.spans.proofs.next_unreached.Tie as tie
-use Rattle.spans.proofs.next_unreached.Reads as reads
-use Rattle.spans.proofs.next_unreached.Lts as lts
-use Rattle.spans.proofs.skip.Reads as skip-reads
 
 abbrev Inv-loop : tie.InvT-loop
 Inv-loop d v w from i₀ i = (from ≤ i) × NoneIn (misses d v w) from i
@@ -18,37 +16,34 @@ Inv-loop d v w from i₀ i = (from ≤ i) × NoneIn (misses d v w) from i
 abbrev μ-loop : tie.MeasureT-loop
 μ-loop d v w from i₀ i = 2 ^ 64 - i
 
--- src/lib.rt:56:5
 loop-holds : tie.Need-loop-holds Inv-loop μ-loop
 loop-holds c = (le-refl _, none-empty (le-refl _))
 
--- src/lib.rt:57:28
 skip-requires : tie.Need-skip-requires Inv-loop μ-loop
 skip-requires c κs = search needs
 
--- src/lib.rt:57:23
 enum-known-k : tie.Need-enum-known-k Inv-loop μ-loop
 enum-known-k c = search needs
 
--- src/lib.rt:58:13
 enum-told : tie.Need-enum-told Inv-loop μ-loop
 enum-told c = search needs
 
--- src/lib.rt:58:13
 returns : tie.Need-returns Inv-loop μ-loop
 returns c = skip-none _ _ _ _ (c .before .before .before .loop .inv) (sym (c .enum-told .given .1) ∙ c .before .before .skip .ensures)
 
--- src/lib.rt:61:13
 returns-2 : tie.Need-returns-2 Inv-loop μ-loop
-returns-2 c = skip-found _ _ _ _ (c .before .before .before .before .before .loop .inv) (sym (c .before .before .k .given .1) ∙ c .before .before .before .before .skip .ensures) (c .if1 .taken)
+returns-2 c =
+    skip-found _ _ _ _ (c .before .before .before .before .before .loop .inv)
+    (sym (c .before .before .k .given .1) ∙ c .before .before .before .before .skip .ensures)
+    (c .if1 .taken)
 
--- src/lib.rt:56:5
 loop-less : tie.Need-loop-less Inv-loop μ-loop
 loop-less c = omega (arith, skip-at _ _ _ _ (sym (c .before .before .k .given .1) ∙ c .before .before .before .before .skip .ensures))
 
--- src/lib.rt:56:5
 loop-again : tie.Need-loop-again Inv-loop μ-loop
-loop-again c = skip-more _ _ _ _ (c .before .before .before .before .before .loop .inv) (sym (c .before .before .k .given .1) ∙ c .before .before .before .before .skip .ensures)
+loop-again c =
+    skip-more _ _ _ _ (c .before .before .before .before .before .loop .inv)
+    (sym (c .before .before .k .given .1) ∙ c .before .before .before .before .skip .ensures)
 
 pub next-unreached-spec : {M : Type 1} → statement M
 next-unreached-spec =

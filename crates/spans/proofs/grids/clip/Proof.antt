@@ -1,30 +1,23 @@
 use borrow.Author.Tests.{le-leb, lt-leb}
-use Rattle.spans.specs.Grids.{clipped}
 use borrow.Author.Needs.{needs}
+use Rattle.spans.specs.Grids.{clipped}
 use Rattle.spans.proofs.grids.clip.Statement.{statement}
 use Rattle.spans.proofs.grids.clip.Tie as tie
-use Rattle.spans.proofs.grids.clip.Reads as reads
-use Rattle.spans.proofs.grids.clip.Lts as lts
 
--- src/grids.rt:69:19
 enum-known-found : tie.Need-enum-known-found
 enum-known-found c = search needs
 
--- src/grids.rt:70:27
 enum-told : tie.Need-enum-told
 enum-told c = search needs
 
--- src/grids.rt:65:1
 returns : tie.Need-returns
 unfolding clipped
 returns c = rw (c .before .before .found .given .1) (simp (le-leb _ _ (c .if1 .taken)))
 
--- src/grids.rt:65:1
 returns-2 : tie.Need-returns-2
 unfolding clipped
 returns-2 c = rw (c .before .before .found .given .1) (simp (lt-leb _ _ (c .if1 .left)))
 
--- src/grids.rt:65:1
 returns-3 : tie.Need-returns-3
 unfolding clipped
 returns-3 c = rw (c .enum-told .given .1)

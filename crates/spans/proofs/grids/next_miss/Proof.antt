@@ -1,53 +1,45 @@
 use mathlib.Core.Path.{sym, _∙_}
 use native.Mathlib.Omega.{arith}
-use Rattle.spans.proofs.OfGrids.{miss-below, miss-at, miss-end}
 use borrow.Author.Needs.{needs}
+use Rattle.spans.proofs.OfGrids.{miss-below, miss-at, miss-end}
 use Rattle.spans.proofs.grids.next_miss.Statement.{statement}
 use Rattle.spans.proofs.grids.next_miss.Tie as tie
-use Rattle.spans.proofs.grids.next_miss.Reads as reads
-use Rattle.spans.proofs.grids.next_miss.Lts as lts
-use Rattle.spans.proofs.grids.begin.Reads as begin-reads
-use Rattle.vectors.proofs.next_entry.Reads as next-entry-reads
 
--- src/grids.rt:56:9
 returns : tie.Need-returns
 returns c = miss-below _ _ _ (omega arith) (c .if1 .taken)
 
--- src/grids.rt:58:74
 cast-next-entry : tie.Need-cast-next-entry
 cast-next-entry c = search needs
 
--- src/grids.rt:58:54
 shr-next-entry : tie.Need-shr-next-entry
 shr-next-entry c = search needs
 
--- src/grids.rt:58:24
 next-entry-requires : tie.Need-next-entry-requires
 next-entry-requires c κs = search needs
 
--- src/grids.rt:58:19
 enum-known-i : tie.Need-enum-known-i
 enum-known-i c = search needs
 
--- src/grids.rt:59:9
 enum-told : tie.Need-enum-told
 enum-told c = search needs
 
--- src/grids.rt:59:9
 begin-requires : tie.Need-begin-requires
 begin-requires c κs = search needs
 
--- src/grids.rt:59:9
 returns-2 : tie.Need-returns-2
-returns-2 c = c .begin .ensures ∙ miss-end _ _ _ (omega arith) (omega arith) (omega arith) (sym (c .before .enum-told .given .1) ∙ c .before .before .before .next-entry .ensures)
+returns-2 c =
+    c .begin .ensures
+    ∙ miss-end _ _ _ (omega arith) (omega arith) (omega arith)
+    (sym (c .before .enum-told .given .1) ∙ c .before .before .before .next-entry .ensures)
 
--- src/grids.rt:61:5
 begin-requires-2 : tie.Need-begin-requires-2
 begin-requires-2 c κs = search needs
 
--- src/grids.rt:51:1
 returns-3 : tie.Need-returns-3
-returns-3 c = c .begin2 .ensures ∙ miss-at _ _ _ (omega arith) (omega arith) (omega arith) (sym (c .before .before .i .given .1) ∙ c .before .before .before .before .next-entry .ensures)
+returns-3 c =
+    c .begin2 .ensures
+    ∙ miss-at _ _ _ (omega arith) (omega arith) (omega arith)
+    (sym (c .before .before .i .given .1) ∙ c .before .before .before .before .next-entry .ensures)
 
 pub next-miss-spec : {M : Type 1} → statement M
 next-miss-spec =

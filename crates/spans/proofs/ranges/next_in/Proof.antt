@@ -1,21 +1,15 @@
 use native.Mathlib.Omega.{arith}
-use Rattle.spans.proofs.OfRanges.{in-at, in-none}
 use borrow.Author.Needs.{needs}
+use Rattle.spans.proofs.OfRanges.{in-at, in-none}
 use Rattle.spans.proofs.ranges.next_in.Statement.{statement}
 use Rattle.spans.proofs.ranges.next_in.Tie as tie
-use Rattle.spans.proofs.ranges.next_in.Reads as reads
-use Rattle.spans.proofs.ranges.next_in.Lts as lts
-use Rattle.spans.proofs.ranges.later.Reads as later-reads
 
--- src/ranges.rt:31:9
 later-requires : tie.Need-later-requires
 later-requires c κs = search needs
 
--- src/ranges.rt:28:1
 returns : tie.Need-returns
 returns c = rw (c .before .before .later .ensures) (in-at _ _ (omega arith) (omega arith))
 
--- src/ranges.rt:28:1
 returns-2 : tie.Need-returns-2
 returns-2 c = in-none _ _ (omega arith)
 

@@ -1,24 +1,18 @@
-use Rattle.search.specs.Search.{isBy}
 use borrow.Author.Needs.{needs}
-use Rattle.search.proofs.is_by.Statement.{statement}
-use Rattle.search.proofs.is_by.Tie as tie
-use Rattle.search.proofs.is_by.Reads as reads
-use Rattle.search.proofs.is_by.Lts as lts
+use Rattle.least.specs.Least.{isBy}
+use Rattle.least.proofs.is_by.Statement.{statement}
+use Rattle.least.proofs.is_by.Tie as tie
 
--- src/lib.rt:27:19
 enum-known-found : tie.Need-enum-known-found
 enum-known-found c = search needs
 
--- src/lib.rt:28:27
 enum-told : tie.Need-enum-told
 enum-told c = search needs
 
--- src/lib.rt:23:1
 returns : tie.Need-returns
 unfolding isBy
 returns c = rw (c .before .found .given .1)
 
--- src/lib.rt:23:1
 returns-2 : tie.Need-returns-2
 unfolding isBy
 returns-2 c = rw (c .enum-told .given .1)

@@ -1,0 +1,104 @@
+#!/usr/bin/env python3
+"""Writes the sample pictures beside it. The pictures are stored; this says what is in each."""
+import os
+import struct
+
+HERE = os.path.dirname(os.path.abspath(__file__))
+ROOT, UPSTREAM, DOWNSTREAM = 0, 1, 2
+MEMORY_SPACE, ARI = 2, 1 << 5
+RID, LOW, HIGH = 0, 1, 2
+SIZE_SHIFT = {RID: 8, LOW: 16, HIGH: 24}
+
+
+class Port:
+    """A port's record and vectors; what is not said is off: no buses, empty memory windows, no vectors."""
+
+    def __init__(self, kind, parent, own, buses=(0, 0), command=MEMORY_SPACE, memory=(0xFFF0, 0), prefetchable=(0xFFF1, 1),
+                 upper=(0, 0), device_control_2=0):
+        self.kind, self.parent, self.own, self.buses, self.command = kind, parent, own, buses, command
+        self.memory, self.prefetchable, self.upper = memory, prefetchable, upper
+        self.device_control_2, self.bridge_control = device_control_2, 0
+        self.capabilities, self.controls, self.vectors = 0, [0, 0, 0, 0, 0], {}
+
+    def vector(self, which, size_code, granularity, start, entries, enabled=True):
+        """`start` is in the mechanism's own unit: 8 IDs, 1 MiB or 256 MiB."""
+        self.capabilities |= 1 << which | size_code << SIZE_SHIFT[which]
+        bits = bytearray((256 << size_code) // 8)
+        for i in entries:
+            bits[i // 8] |= 1 << i % 8
+        self.vectors[which] = bytes(bits)
+        control = int(enabled) | granularity << 4
+        if which == RID:
+            self.controls[0] = control | start << 19
+        elif which == LOW:
+            self.controls[2] = control | start << 20
+        else:
+            self.controls[3] = control | (start & 15) << 28
+            self.controls[4] = start >> 4
+        return self
+
+    def secondary(self, unit, num_sec_dev=0):
+        self.controls[1] = unit << 3
+        self.capabilities |= num_sec_dev << 3
+        return self
+
+    def record(self, vectors_at):
+        return struct.pack('<BBHHBBHHHHIIHHIIIIIII', self.kind, self.parent, self.own, self.command, *self.buses, *self.memory,
+                           *self.prefetchable, *self.upper, self.device_control_2, self.bridge_control, self.capabilities,
+                           *self.controls, vectors_at)
+
+    def vector_bytes(self):
+        return b''.join(self.vectors[w] for w in sorted(self.vectors))
+
+
+def picture(ports, edition=1):
+    at = 16 + 56 * len(ports)
+    records, vectors = b'', b''
+    for port in ports:
+        records += port.record(at + len(vectors))
+        vectors += port.vector_bytes()
+    total = at + len(vectors)
+    return struct.pack('<HHIII', edition, len(ports), total, 16, at) + records + vectors
+
+
+def chain(length):
+    """A root port and below it upstream and downstream ports in turn."""
+    kinds = [ROOT] + [UPSTREAM if i % 2 else DOWNSTREAM for i in range(1, length)]
+    return [Port(kind, i - 1 if i else 255, 8 * i) for i, kind in enumerate(kinds)]
+
+
+def changed(data, at, new):
+    return data[:at] + bytes(new) + data[at + len(new):]
+
+
+# the paper's own picture: one root port with bus 1 and an empty Memory window
+ONE_PORT = bytes.fromhex('01000100480000001000000048000000 00FF0800020001 0100E000E0F0FF0000'.replace(' ', '')) + bytes(36) + bytes.fromhex('48000000')
+
+SWITCH = [
+    Port(ROOT, 255, 0x0008, buses=(1, 4)),
+    Port(UPSTREAM, 0, 0x0100, buses=(2, 4)),
+    Port(DOWNSTREAM, 1, 0x0200, buses=(3, 3)),
+    Port(DOWNSTREAM, 1, 0x0208, buses=(4, 4)),
+]
+
+SAMPLES = {
+    'one-port': ONE_PORT,
+    'switch': picture(SWITCH),
+    'chain-of-16': picture(chain(16)),
+    'chain-of-17': picture(chain(17)),
+    'short': ONE_PORT[:71],
+    'edition-2': changed(ONE_PORT, 0, [2, 0]),
+    'no-port': changed(ONE_PORT, 2, [0, 0]),
+    'total-wrong': changed(ONE_PORT, 4, [0x49]),
+    'records-elsewhere': changed(ONE_PORT, 8, [17]),
+    'later-child': picture(SWITCH[:2] + [Port(UPSTREAM, 0, 0x0110)]),
+    'reserved-size': picture([Port(ROOT, 255, 8), Port(ROOT, 255, 16).vector(RID, 1, 0, 0, [])]),
+    'start-misaligned': picture([Port(ROOT, 255, 8).vector(LOW, 0, 4, 8, [0])]),
+    'vectors-past-the-end': changed(picture([Port(ROOT, 255, 8).vector(RID, 0, 0, 0, [3])])[:-1], 4, [16 + 56 + 31]),
+    'eight-before-nine': picture([Port(ROOT, 255, 8).vector(LOW, 0, 4, 8, [0]), Port(ROOT, 255, 16, memory=(0xE001, 0xE000))]),
+}
+
+if __name__ == '__main__':
+    for name, data in SAMPLES.items():
+        with open(os.path.join(HERE, name + '.picture'), 'wb') as f:
+            f.write(data)
