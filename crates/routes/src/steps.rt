@@ -26,7 +26,7 @@ fn target_of(packet: Packet) -> Target
 }
 
 // The Function number of a configuration request that ends at a port's device.
-fn function_number(s: &[u8], q: PortNo, t: Target) -> u8
+pub fn function_number(s: &[u8], q: PortNo, t: Target) -> u8
     ensures { λ r. ⌜ r ≡ functionNumber (chassisOf (now (s .entry))) (q .0) t ⌝ }
 {
     let Target::Id(rid) = t else {
