@@ -99,9 +99,10 @@ fn upward(s: &[u8], t: Target, q: PortNo) -> Step
     ensures { λ r. ⌜ r ≡ Walk·upward (chassisOf (now (s .entry))) t q ⌝ }
 {
     if claims::claims(s, q, t) {
-        return Step::Stop(End::Unsupported(q));
+        Step::Stop(End::Unsupported(q))
+    } else {
+        Step::Cross(q, come_to(trees::parent_at(s, q)))
     }
-    Step::Cross(q, come_to(trees::parent_at(s, q)))
 }
 
 // At the root: rules 1 to 3.
