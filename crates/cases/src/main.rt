@@ -6,10 +6,7 @@ use given::chain_with;
 use given::entry_of;
 use given::fpb_of;
 use given::memory_of;
-use ids::PortNo;
 use ids::Rid;
-use ids::Target;
-use libc::STDOUT_FILENO;
 use registers::Mechanism;
 
 // C1 to C4.
@@ -68,7 +65,7 @@ fn first_mib() {
     print::end();
 }
 
-// C10 and C12 without ARI, C11 with it.
+// C10 and C12 without ARI; C11 with it, and the Function at which the host's request ends.
 fn conversions() {
     let plain = chain_with(0);
     let with_ari = chain_with(32);
@@ -77,11 +74,7 @@ fn conversions() {
     print::end();
     print::case(11);
     print::answer(judge::convert(&with_ari, 2, Rid(0x0308)));
-    io::write_all(STDOUT_FILENO, b" Function ");
-    io::print_decimal(
-        STDOUT_FILENO,
-        routes::function_number(&with_ari, PortNo(2), Target::Id(Rid(0x0308))) as u64,
-    );
+    print::function(judge::walk(&with_ari, 2, 255, 0x0308));
     print::end();
     print::case(12);
     print::answer(judge::convert(&plain, 2, Rid(0x0400)));

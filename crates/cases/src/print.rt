@@ -1,6 +1,9 @@
 // Printing what the code answers.
 use chassis::Conversion;
+use chassis::End;
 use judge::ConvertAnswer;
+use judge::Outcome;
+use judge::WalkAnswer;
 use least::Found;
 use libc::STDOUT_FILENO;
 
@@ -63,5 +66,16 @@ pub fn answer(answer: ConvertAnswer) {
             io::print_decimal(STDOUT_FILENO, r.number as u64);
         }
         ConvertAnswer::Converted(made) => conversion(made),
+    }
+}
+
+// The Function number of a configuration request that ends at a device.
+pub fn function(answer: WalkAnswer) {
+    let outcome = answer.outcome;
+    if let Outcome::Ended(end) = outcome {
+        if let End::Device(_, number) = end {
+            io::write_all(STDOUT_FILENO, b" Function ");
+            io::print_decimal(STDOUT_FILENO, number as u64);
+        }
     }
 }

@@ -10,11 +10,11 @@ use Rattle.picture.specs.Reading.{reading}
 use Rattle.claims.specs.Claims.{chassisOf}
 use Rattle.judge.specs.declared.ClaimAnswer.{ClaimAnswer}
 use Rattle.judge.specs.declared.ClaimAnswer.the-variants.{Refused, Claimed}
-use Rattle.judge.specs.Refusals.{beyondCount}
+use Rattle.judge.specs.Refusals.{number16}
 
 unfoldable pub claimOf : Reading → List ℕ → ℕ → Target → ClaimAnswer
 claimOf (NotRead r) s port t = Refused r
-claimOf (Read h) s port t = cond (ltb port (h .count)) (Claimed (chassisOf s .claims port t)) (Refused beyondCount)
+claimOf (Read h) s port t = cond (ltb port (h .count)) (Claimed (chassisOf s .claims port t)) (Refused number16)
 
 abbrev pub claimAnswer : List ℕ → ℕ → Target → ClaimAnswer
 claimAnswer s port t = claimOf (reading s) s port t

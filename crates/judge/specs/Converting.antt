@@ -12,11 +12,11 @@ use Rattle.picture.specs.Reading.{reading}
 use Rattle.claims.specs.Claims.{chassisOf}
 use Rattle.judge.specs.declared.ConvertAnswer.{ConvertAnswer}
 use Rattle.judge.specs.declared.ConvertAnswer.the-variants.{Refused, Converted}
-use Rattle.judge.specs.Refusals.{beyondCount}
+use Rattle.judge.specs.Refusals.{number16}
 
 unfoldable pub convertOf : Reading → List ℕ → ℕ → Rid → ConvertAnswer
 convertOf (NotRead r) s port rid = Refused r
-convertOf (Read h) s port rid = cond (ltb port (h .count)) (Converted (chassisOf s .conversion port (Id rid))) (Refused beyondCount)
+convertOf (Read h) s port rid = cond (ltb port (h .count)) (Converted (chassisOf s .conversion port (Id rid))) (Refused number16)
 
 abbrev pub convertAnswer : List ℕ → ℕ → Rid → ConvertAnswer
 convertAnswer s port rid = convertOf (reading s) s port rid

@@ -1,3 +1,5 @@
 pub mod Refusals
 pub mod Claiming
 pub mod Converting
+pub mod Walking
+pub mod Ends

@@ -12,9 +12,10 @@ abbrev pub refusalOf : Reading → Refusal
 refusalOf (Read h) = record { number = 0; port = portNo 255 }
 refusalOf (Refused r) = r
 
--- 16: "claim and conversion: a port beyond the count"; it names no port
-abbrev pub beyondCount : Refusal
-beyondCount = record { number = 16; port = portNo 255 }
+-- 16: "walk: packet kind over 2, an ID over FFFFh, or start not 255 and not a device port; claim and conversion: a port beyond the
+-- count"; it names no port
+abbrev pub number16 : Refusal
+number16 = record { number = 16; port = portNo 255 }
 
 -- the number of a call about a port: 1 to 10, then 16, else 0
 unfoldable pub portNumber : Reading → ℕ → ℕ

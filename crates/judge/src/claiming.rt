@@ -1,6 +1,6 @@
 // Whether a port of a picture claims a target.
 use crate::ClaimAnswer;
-use crate::refusals::beyond_count;
+use crate::refusals::number_16;
 use crate::refusals::refusal_of;
 use ids::PortNo;
 use ids::Target;
@@ -20,7 +20,7 @@ pub fn claim(s: &[u8], port: u32, t: Target) -> ClaimAnswer
     };
     let count = h.count as u32;
     if count <= port {
-        return ClaimAnswer::Refused(beyond_count());
+        return ClaimAnswer::Refused(number_16());
     }
     ClaimAnswer::Claimed(claims::claims(s, PortNo(port as u8), t))
 }

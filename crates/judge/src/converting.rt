@@ -1,6 +1,6 @@
 // What a port of a picture makes of a configuration request for an ID.
 use crate::ConvertAnswer;
-use crate::refusals::beyond_count;
+use crate::refusals::number_16;
 use crate::refusals::refusal_of;
 use ids::PortNo;
 use ids::Rid;
@@ -21,7 +21,7 @@ pub fn convert(s: &[u8], port: u32, rid: Rid) -> ConvertAnswer
     };
     let count = h.count as u32;
     if count <= port {
-        return ConvertAnswer::Refused(beyond_count());
+        return ConvertAnswer::Refused(number_16());
     }
     ConvertAnswer::Converted(claims::conversion(s, PortNo(port as u8), Target::Id(rid)))
 }

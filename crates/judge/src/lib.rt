@@ -2,11 +2,15 @@
 mod claiming;
 mod converting;
 mod refusals;
+mod walking;
 
 use chassis::Conversion;
+use chassis::End;
 pub use claiming::claim;
 pub use converting::convert;
+use paths::Path;
 use picture::Refusal;
+pub use walking::walk;
 
 // Whether a port claims a target, or why that is not answered.
 pub enum ClaimAnswer {
@@ -18,4 +22,16 @@ pub enum ClaimAnswer {
 pub enum ConvertAnswer {
     Refused(Refusal),
     Converted(Conversion),
+}
+
+// How a walk came out: why it is not answered, or where the packet ends.
+pub enum Outcome {
+    Refused(Refusal),
+    Ended(End),
+}
+
+// Where a packet goes, with the ports that it crosses.
+pub struct WalkAnswer {
+    pub outcome: Outcome,
+    pub path: Path,
 }

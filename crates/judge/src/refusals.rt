@@ -3,7 +3,7 @@ use ids::PortNo;
 use picture::Reading;
 use picture::Refusal;
 ghost use mathlib.Core.Path.{_≡_};
-ghost use Rattle.judge.specs.Refusals.{refusalOf, beyondCount};
+ghost use Rattle.judge.specs.Refusals.{refusalOf, number16};
 
 // The refusal of a picture that does not read.
 pub fn refusal_of(got: Reading) -> Refusal
@@ -18,9 +18,9 @@ pub fn refusal_of(got: Reading) -> Refusal
     }
 }
 
-// The refusal of a port that the picture does not have.
-pub fn beyond_count() -> Refusal
-    ensures { λ r. ⌜ r ≡ beyondCount ⌝ }
+// The refusal of a call that asks for what the picture does not have.
+pub fn number_16() -> Refusal
+    ensures { λ r. ⌜ r ≡ number16 ⌝ }
 {
     Refusal {
         number: 16,

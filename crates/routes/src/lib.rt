@@ -6,7 +6,6 @@ use chassis::Packet;
 use chassis::Step;
 use chassis::Whereabouts;
 use paths::Path;
-pub use steps::function_number;
 ghost use mathlib.Core.Path.{_≡_};
 ghost use Rattle.chassis.proofs.Steps.{Within};
 ghost use Rattle.chassis.proofs.Tree.{Sane};

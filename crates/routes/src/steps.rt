@@ -26,7 +26,7 @@ fn target_of(packet: Packet) -> Target
 }
 
 // The Function number of a configuration request that ends at a port's device.
-pub fn function_number(s: &[u8], q: PortNo, t: Target) -> u8
+fn function_number(s: &[u8], q: PortNo, t: Target) -> u8
     ensures { λ r. ⌜ r ≡ functionNumber (chassisOf (now (s .entry))) (q .0) t ⌝ }
 {
     let Target::Id(rid) = t else {
@@ -99,9 +99,10 @@ fn upward(s: &[u8], t: Target, q: PortNo) -> Step
     ensures { λ r. ⌜ r ≡ Walk·upward (chassisOf (now (s .entry))) t q ⌝ }
 {
     if claims::claims(s, q, t) {
-        return Step::Stop(End::Unsupported(q));
+        Step::Stop(End::Unsupported(q))
+    } else {
+        Step::Cross(q, come_to(trees::parent_at(s, q)))
     }
-    Step::Cross(q, come_to(trees::parent_at(s, q)))
 }
 
 // At the root: rules 1 to 3.

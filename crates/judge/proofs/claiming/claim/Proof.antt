@@ -26,12 +26,12 @@ returns c = claim-numbered _ _ _ _ (rw (c .refusal-of .ensures, ← c .before .b
 cast-count : tie.Need-cast-count
 cast-count c = search needs
 
-beyond-count-requires : tie.Need-beyond-count-requires
-beyond-count-requires c κs = search needs
+number-16-requires : tie.Need-number-16-requires
+number-16-requires c κs = search needs
 
 returns-2 : tie.Need-returns-2
 unfolding claimOf
-returns-2 c = claim-numbered _ _ _ _ (rw (c .beyond-count .ensures, ← c .before .before .before .before .before .before .read .ensures, c .before .before .before .before .got .given .1) (simp (le-ltb _ _ (c .before .if1 .taken))))
+returns-2 c = claim-numbered _ _ _ _ (rw (c .number-16 .ensures, ← c .before .before .before .before .before .before .read .ensures, c .before .before .before .before .got .given .1) (simp (le-ltb _ _ (c .before .if1 .taken))))
 
 cast-t10 : tie.Need-cast-t10
 cast-t10 c = omega (arith, read-passed _ _ (sym (c .before .before .before .before .before .read .ensures) ∙ c .before .before .before .got .given .1) .1)
@@ -53,7 +53,7 @@ claim-spec =
     refusal-of-requires
     returns
     cast-count
-    beyond-count-requires
+    number-16-requires
     returns-2
     cast-t10
     claims-requires

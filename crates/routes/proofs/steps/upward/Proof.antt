@@ -8,28 +8,28 @@ use Rattle.claims.proofs.claims.Reads as claims-reads
 use Rattle.routes.proofs.steps.come_to.Reads as come-to-reads
 use Rattle.trees.proofs.parent_at.Reads as parent-at-reads
 
--- src/steps.rt:100:8
+-- src/steps.rt:101:8
 claims-requires : tie.Need-claims-requires
 claims-requires c κs = search needs
 
--- src/steps.rt:101:9
+-- src/steps.rt:104:32
+parent-at-requires : tie.Need-parent-at-requires
+parent-at-requires c κs = search needs
+
+-- src/steps.rt:104:24
+come-to-requires : tie.Need-come-to-requires
+come-to-requires c κs = search needs
+
+-- src/steps.rt:98:1
 returns : tie.Need-returns
 unfolding upward
 returns c = rw (← c .before .claims .ensures, c .if1 .taken)
 
--- src/steps.rt:103:26
-parent-at-requires : tie.Need-parent-at-requires
-parent-at-requires c κs = search needs
-
--- src/steps.rt:103:20
-come-to-requires : tie.Need-come-to-requires
-come-to-requires c κs = search needs
-
--- src/steps.rt:97:1
+-- src/steps.rt:98:1
 returns-2 : tie.Need-returns-2
 unfolding upward
 returns-2 c = rw (← c .before .before .before .claims .ensures, c .before .before .if1 .left, ← c .before .parent-at .ensures, ← c .come-to .ensures)
 
 pub upward-spec : {M : Type 1} → statement M
 upward-spec =
-    tie.close (tie.spec claims-requires returns parent-at-requires come-to-requires returns-2)
+    tie.close (tie.spec claims-requires parent-at-requires come-to-requires returns returns-2)
