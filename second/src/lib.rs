@@ -7,5 +7,8 @@ pub mod claims;
 pub mod draft;
 pub mod judge;
 pub mod picture;
+pub mod pool;
 pub mod random;
+pub mod sound;
+pub mod topology;
 pub mod walk;
