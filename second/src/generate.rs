@@ -1,0 +1,251 @@
+//! Batches of random pictures, each with a report, a check and a choice of further calls.
+
+use crate::batch::Record;
+use crate::breaking::{break_once, shake};
+use crate::cases::all_cases;
+use crate::draft::Draft;
+use crate::judge::Judge;
+use crate::picture::{Picture, Port, Vector, FOUR_GIB};
+use crate::random::Random;
+use crate::sound::{fill, Taste};
+use crate::spoil::{chain_at_the_edge, reading_edges, spoil};
+use crate::topology::{grow, port_count, ALL_FORMS};
+use crate::wild::{add_noise, wild};
+
+/// Numbers that are no start anywhere, whatever they are cut to.
+const BAD_STARTS: [u32; 8] = [64, 254, 256, 300, 511, 0xFF00, 0x1_0000, u32::MAX];
+
+/// Packet kinds that there are not.
+const BAD_KINDS: [u32; 5] = [3, 255, 256, 258, u32::MAX];
+
+/// IDs over FFFFh, some of which would be good IDs if they were cut.
+const LONG_IDS: [u64; 4] = [0x1_0000, 0x1_0308, 0x1_0000_0000, u64::MAX];
+
+/// A batch of so many pictures; the same seed gives the same batch.
+pub fn generate(seed: u64, count: u64) -> Vec<u8> {
+    let mut batch = Vec::new();
+    for index in 0..count {
+        let random = &mut Random::new(seed.wrapping_mul(0x1_0000_0001).wrapping_add(index));
+        let picture = random_picture(random);
+        write_with_calls(random, picture, &mut batch);
+    }
+    batch
+}
+
+/// The hand-written cases and all edges of reading, as a batch.
+pub fn hand_written() -> Vec<u8> {
+    let mut batch = Vec::new();
+    for case in all_cases() {
+        Record::Picture(case.picture).write(&mut batch);
+        Record::Report.write(&mut batch);
+        Record::Check.write(&mut batch);
+        case.calls.iter().for_each(|(call, _)| call.write(&mut batch));
+    }
+    for picture in reading_edges() {
+        Record::Picture(picture).write(&mut batch);
+        Record::Report.write(&mut batch);
+        Record::Check.write(&mut batch);
+        Record::Walk { kind: 0, start: 255, target: 0 }.write(&mut batch);
+        Record::Claim { port: 0, target_kind: 0, target: 0 }.write(&mut batch);
+        Record::Conversion { port: 0, id: 0 }.write(&mut batch);
+    }
+    batch
+}
+
+/// A picture of one of the families: spoiled, wild, sound, broken once, or shaken.
+fn random_picture(random: &mut Random) -> Vec<u8> {
+    match random.below(20) {
+        0 => chain_at_the_edge(random),
+        1..=4 => {
+            let good = if random.percent(50) { wild(random) } else { sound_draft(random) };
+            let mut picture = noisy_bytes(random, good);
+            spoil(random, &mut picture);
+            picture
+        }
+        5..=8 => {
+            let draft = wild(random);
+            noisy_bytes(random, draft)
+        }
+        9..=12 => {
+            let draft = sound_draft(random);
+            noisy_bytes(random, draft)
+        }
+        13..=17 => {
+            let sound = sound_draft(random);
+            let number = random.between(11, 15) as u8;
+            let broken = break_once(random, &sound, number);
+            noisy_bytes(random, broken)
+        }
+        _ => {
+            let sound = sound_draft(random);
+            let times = random.between(2, 8);
+            let shaken = shake(random, &sound, times);
+            noisy_bytes(random, shaken)
+        }
+    }
+}
+
+/// A random sound picture.
+pub fn sound_draft(random: &mut Random) -> Draft {
+    let form = random.pick(&ALL_FORMS);
+    let count = port_count(random);
+    let ports = grow(random, form, count);
+    let taste = Taste::random(random);
+    fill(random, ports, &taste)
+}
+
+/// The bytes of a draft, in half of the cases with noise that must not matter.
+fn noisy_bytes(random: &mut Random, mut draft: Draft) -> Vec<u8> {
+    if random.percent(50) {
+        add_noise(random, &mut draft);
+    }
+    draft.bytes()
+}
+
+/// Writes a picture, its report and check, and calls that suit it.
+fn write_with_calls(random: &mut Random, picture: Vec<u8>, batch: &mut Vec<u8>) {
+    let judge = Judge::new(&picture);
+    Record::Picture(picture).write(batch);
+    Record::Report.write(batch);
+    Record::Check.write(batch);
+    let calls = match judge.reading() {
+        Ok(picture) => calls_on(random, picture),
+        Err(_) => calls_on_nothing(random),
+    };
+    calls.iter().for_each(|call| call.write(batch));
+}
+
+/// A few calls on a picture that does not read; some would be refused anyway.
+fn calls_on_nothing(random: &mut Random) -> Vec<Record> {
+    let kind = random.pick(&[0, 1, 2, 3, 256]);
+    let start = random.pick(&[255, 0, 254, 511]);
+    vec![
+        Record::Walk { kind, start, target: random.pick(&[0, 0x0308, 0x1_0000]) },
+        Record::Claim { port: random.pick(&[0, 99]), target_kind: random.below(2) as u32, target: 0 },
+        Record::Conversion { port: random.pick(&[0, 99]), id: random.pick(&[0, 0x1_0000]) },
+    ]
+}
+
+/// Calls on a picture that reads: all kinds, with targets at and around the edges of its ports.
+fn calls_on(random: &mut Random, picture: &Picture) -> Vec<Record> {
+    let mut calls = Vec::new();
+    for _ in 0..12 {
+        for kind in 0..3 {
+            calls.push(walk_call(random, picture, kind));
+        }
+    }
+    for _ in 0..8 {
+        calls.push(claim_call(random, picture, 0));
+        calls.push(claim_call(random, picture, 1));
+        calls.push(conversion_call(random, picture));
+    }
+    calls.push(Record::Walk { kind: random.pick(&BAD_KINDS), start: 255, target: 0 });
+    calls.push(Record::Walk { kind: 0, start: random.pick(&BAD_STARTS), target: 0 });
+    calls
+}
+
+/// A walk of that kind. From the host, from a device port, or sometimes from where none can start;
+/// configuration requests come mostly from the host.
+fn walk_call(random: &mut Random, picture: &Picture, kind: u32) -> Record {
+    let device_ports: Vec<usize> =
+        (0..picture.ports.len()).filter(|&port| picture.is_device_port(port)).collect();
+    let from_host = random.percent(if kind == 2 { 90 } else { 40 });
+    let start = if random.percent(3) {
+        let any_port = random_port(random, picture) as u32;
+        random.pick(&[any_port, picture.ports.len() as u32, 256])
+    } else if from_host || device_ports.is_empty() {
+        255
+    } else {
+        deepest_of_two(random, picture, &device_ports) as u32
+    };
+    let target = if kind == 1 { some_address(random, picture) } else { some_id(random, picture) };
+    Record::Walk { kind, start, target }
+}
+
+/// A claim by some port, or by one beyond the count.
+fn claim_call(random: &mut Random, picture: &Picture, target_kind: u32) -> Record {
+    let port = some_port_number(random, picture);
+    let target = if target_kind == 1 { some_address(random, picture) } else { some_id(random, picture) };
+    Record::Claim { port, target_kind, target }
+}
+
+/// A conversion by some port, or by one beyond the count.
+fn conversion_call(random: &mut Random, picture: &Picture) -> Record {
+    Record::Conversion { port: some_port_number(random, picture), id: some_id(random, picture) }
+}
+
+/// A port of the picture.
+fn random_port(random: &mut Random, picture: &Picture) -> usize {
+    random.below(picture.ports.len() as u64) as usize
+}
+
+/// The deeper of two random ports of a list.
+fn deepest_of_two(random: &mut Random, picture: &Picture, ports: &[usize]) -> usize {
+    let (first, second) = (random.pick(ports), random.pick(ports));
+    if picture.depth(first) >= picture.depth(second) { first } else { second }
+}
+
+/// The number of a port, seldom one beyond the count.
+fn some_port_number(random: &mut Random, picture: &Picture) -> u32 {
+    match random.percent(3) {
+        true => random.pick(&[picture.ports.len() as u32, 64, 255, 256, u32::MAX]),
+        false => random_port(random, picture) as u32,
+    }
+}
+
+/// A port to aim at, rather a deep one.
+fn some_aim<'a>(random: &mut Random, picture: &'a Picture) -> &'a Port {
+    let all: Vec<usize> = (0..picture.ports.len()).collect();
+    &picture.ports[deepest_of_two(random, picture, &all)]
+}
+
+/// An ID at or around an edge of some port, or something claimed, or any ID; seldom one over FFFFh.
+fn some_id(random: &mut Random, picture: &Picture) -> u64 {
+    let port = some_aim(random, picture);
+    let edge = match random.below(9) {
+        0 | 1 => port.own_id as u64,
+        2 => (port.secondary as u64) << 8,
+        3 => ((port.subordinate as u64) << 8) + 0x100,
+        4 => port.secondary_start as u64 * 8 + random.pick(&[0, 8, port.num_sec_dev as u64 * 8, port.num_sec_dev as u64 * 8 + 8]),
+        5 | 6 => some_vector_edge(random, port.rid.as_ref()),
+        7 => (port.secondary as u64) << 8 | random.below(0x400),
+        _ => random.bits(),
+    };
+    if random.percent(2) {
+        return random.pick(&LONG_IDS);
+    }
+    let around = random.pick(&[0, 0, 0, 1, 7, 8, 0xFFFF]);
+    (edge + around) & 0xFFFF
+}
+
+/// An address at or around an edge of some port, or something claimed, or any address.
+fn some_address(random: &mut Random, picture: &Picture) -> u64 {
+    let port = some_aim(random, picture);
+    let edge = match random.below(9) {
+        0 => port.memory.base,
+        1 => port.memory.last,
+        2 => port.prefetchable.base,
+        3 => port.prefetchable.last,
+        4 | 5 => some_vector_edge(random, port.low.as_ref()),
+        6 | 7 => some_vector_edge(random, port.high.as_ref()),
+        _ => random.pick(&[0, FOUR_GIB, u64::MAX, 0xA_0000]),
+    };
+    edge.wrapping_add(random.pick(&[0, 0, 0, 1, u64::MAX, 0xF_FFFF]))
+}
+
+/// The first target of an entry: of a set one mostly, else of any, of the one before the first or
+/// after the last.
+fn some_vector_edge(random: &mut Random, vector: Option<&Vector>) -> u64 {
+    let Some(vector) = vector else { return random.bits() >> random.below(64) };
+    let set: Vec<u64> = (0..vector.size).filter(|&entry| vector.is_set(entry)).collect();
+    let entry = match random.below(8) {
+        0 => 0,
+        1 => vector.size,
+        2 => random.below(vector.size),
+        _ if set.is_empty() => 0,
+        3 => set[0],
+        4 => set[set.len() - 1] + 1,
+        _ => random.pick(&set),
+    };
+    vector.start.wrapping_add(entry * vector.granularity)
+}
