@@ -110,11 +110,7 @@ impl<'a> Records<'a> {
             }
             b'R' => Ok(Record::Report),
             b'C' => Ok(Record::Check),
-            b'W' => Ok(Record::Walk {
-                kind: self.take_4()?,
-                start: self.take_4()?,
-                target: self.take_8()?,
-            }),
+            b'W' => Ok(Record::Walk { kind: self.take_4()?, start: self.take_4()?, target: self.take_8()? }),
             b'L' => Ok(Record::Claim {
                 port: self.take_4()?,
                 target_kind: self.take_4()?,
@@ -153,9 +149,7 @@ pub fn answer(judge: &Judge, record: &Record) -> Option<String> {
         Record::Claim { port, target_kind, target } => {
             Some(word_line(judge.claim(*port, *target_kind, *target), claim_word))
         }
-        Record::Conversion { port, id } => {
-            Some(word_line(judge.conversion(*port, *id), conversion_word))
-        }
+        Record::Conversion { port, id } => Some(word_line(judge.conversion(*port, *id), conversion_word)),
     }
 }
 

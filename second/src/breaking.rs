@@ -1,7 +1,7 @@
 //! One thing changed in a sound picture, so that the check gives a wanted number.
 
 use crate::check::candidate_addresses;
-use crate::draft::{Draft, Which, ALL_VECTORS};
+use crate::draft::{Draft, VectorShape, Which, ALL_VECTORS};
 use crate::judge::Judge;
 use crate::picture::{Picture, MIB};
 use crate::random::Random;
@@ -12,19 +12,55 @@ type Change = fn(&mut Random, &Picture, &mut Draft);
 /// The changes that tend to give a number from 11 to 15.
 fn changes_for(number: u8) -> &'static [Change] {
     match number {
-        11 => &[own_id_of_another, own_id_claimed_by_itself, bus_of_another, flip_rid_entry, move_bus_pair],
-        12 => &[memory_of_another, low_of_another, move_memory, move_prefetchable, flip_memory_entry, shift_vector],
+        11 => {
+            &[own_id_of_another, claimed_own_id, bus_of_another, flip_rid_entry, move_bus_pair, last_own_id]
+        }
+        12 => &[
+            memory_of_another,
+            low_of_another,
+            memory_of_another,
+            low_of_another,
+            move_memory,
+            move_prefetchable,
+            flip_memory_entry,
+            shift_vector,
+            claim_around_4_gib,
+            claim_the_top,
+        ],
         13 => &[flip_rid_entry, move_bus_pair, random_own_id, close_bus_pair, disable_vector],
-        14 => &[flip_memory_entry, move_memory, move_prefetchable, memory_space_off, disable_vector],
-        _ => &[move_secondary_start, one_device_only, turn_ari, neighbour_own_id, move_secondary_start],
+        14 => &[
+            flip_memory_entry,
+            move_memory,
+            move_prefetchable,
+            memory_space_off,
+            disable_vector,
+            claim_around_4_gib,
+            claim_the_top,
+        ],
+        _ => &[move_secondary_start, one_device_only, turn_ari, neighbour_own_id, other_claimed_own_id],
     }
 }
 
-/// Changes one thing in a sound picture such that the check gives the number; several tries, and
-/// whatever the last one gives.
-pub fn break_once(random: &mut Random, sound: &Draft, number: u8) -> Draft {
+/// Which numbers one change can give at all: overlaps need two ports at one place (or a claim of an
+/// own ID), escapes need a port below another.
+fn possible_numbers(picture: &Picture) -> Vec<u8> {
+    let mut numbers = vec![11];
+    if !ports_with_siblings(picture).is_empty() {
+        numbers.push(12);
+    }
+    if picture.ports.iter().any(|port| port.parent.is_some()) {
+        numbers.extend([13, 14, 15]);
+    }
+    numbers
+}
+
+/// Changes one thing in a sound picture such that the check gives a number from 11 to 15, rather one
+/// that is seldom; several tries, and whatever the last one gives.
+pub fn break_once(random: &mut Random, sound: &Draft) -> Draft {
     let judge = Judge::new(&sound.bytes());
     let Ok(picture) = judge.reading() else { return sound.clone() };
+    let numbers = possible_numbers(picture);
+    let number = random.pick(&numbers).max(random.pick(&numbers));
     let mut broken = sound.clone();
     for _ in 0..10 {
         broken = sound.clone();
@@ -54,17 +90,32 @@ fn any_port(random: &mut Random, picture: &Picture) -> usize {
     random.below(picture.ports.len() as u64) as usize
 }
 
-/// A random port, and another at the same place if there is one (else itself).
+/// The ports that are not alone at their place.
+fn ports_with_siblings(picture: &Picture) -> Vec<usize> {
+    let place_of = |port: usize| picture.ports[port].parent;
+    (0..picture.ports.len()).filter(|&port| picture.ports_at(place_of(port)).len() > 1).collect()
+}
+
+/// Two ports at one place, in any order; one port twice if none has company.
 fn two_siblings(random: &mut Random, picture: &Picture) -> (usize, usize) {
-    let port = any_port(random, picture);
-    let others = picture.ports_at(picture.ports[port].parent);
+    let choice = ports_with_siblings(picture);
+    if choice.is_empty() {
+        let port = any_port(random, picture);
+        return (port, port);
+    }
+    let port = random.pick(&choice);
+    let mut others = picture.ports_at(picture.ports[port].parent);
+    others.retain(|&other| other != port);
     (port, random.pick(&others))
 }
 
 /// A random port that has children, if any has.
 fn any_parent(random: &mut Random, picture: &Picture) -> usize {
-    let port = any_port(random, picture);
-    picture.ports[port].parent.unwrap_or(port)
+    let parents: Vec<usize> = picture.ports.iter().filter_map(|port| port.parent).collect();
+    if parents.is_empty() {
+        return any_port(random, picture);
+    }
+    random.pick(&parents)
 }
 
 /// The own ID of a port becomes that of another at its place.
@@ -73,21 +124,40 @@ fn own_id_of_another(random: &mut Random, picture: &Picture, draft: &mut Draft) 
     draft.ports[port].own_id = draft.ports[other].own_id;
 }
 
+/// The IDs that a port claims.
+fn claimed_ids(picture: &Picture, port: usize) -> Vec<u16> {
+    (0..=0xFFFF).filter(|&id| picture.ports[port].claims_id(id)).collect()
+}
+
 /// The own ID of a port becomes one that it, or another at its place, claims.
-fn own_id_claimed_by_itself(random: &mut Random, picture: &Picture, draft: &mut Draft) {
+fn claimed_own_id(random: &mut Random, picture: &Picture, draft: &mut Draft) {
     let (port, other) = two_siblings(random, picture);
-    let claimer = random.pick(&[port, port, other]);
-    let claimed: Vec<u16> = (0..=0xFFFF).filter(|&id| picture.ports[claimer].claims_id(id)).collect();
+    let claimed = claimed_ids(picture, random.pick(&[port, port, other]));
     if !claimed.is_empty() {
         draft.ports[port].own_id = random.pick(&claimed);
     }
 }
 
+/// The own ID of a port becomes another one that its parent claims.
+fn other_claimed_own_id(random: &mut Random, picture: &Picture, draft: &mut Draft) {
+    let parent = any_parent(random, picture);
+    let children = picture.ports_at(Some(parent));
+    let claimed = claimed_ids(picture, parent);
+    if !children.is_empty() && !claimed.is_empty() {
+        draft.ports[random.pick(&children)].own_id = random.pick(&claimed);
+    }
+}
+
+/// The own ID of a port becomes FFFFh.
+fn last_own_id(random: &mut Random, picture: &Picture, draft: &mut Draft) {
+    draft.ports[any_port(random, picture)].own_id = 0xFFFF;
+}
+
 /// The bus pair of a port becomes one bus that another at its place holds something of.
 fn bus_of_another(random: &mut Random, picture: &Picture, draft: &mut Draft) {
     let (port, other) = two_siblings(random, picture);
-    let held: Vec<u16> = (0..=0xFFFF).filter(|&id| picture.ports[other].claims_id(id)).collect();
-    let id = if held.is_empty() { picture.ports[other].own_id } else { random.pick(&held) };
+    let claimed = claimed_ids(picture, other);
+    let id = if claimed.is_empty() { picture.ports[other].own_id } else { random.pick(&claimed) };
     draft.ports[port].secondary = (id >> 8) as u8;
     draft.ports[port].subordinate = (id >> 8) as u8;
 }
@@ -205,6 +275,32 @@ fn move_prefetchable(random: &mut Random, picture: &Picture, draft: &mut Draft) 
         2 => registers.prefetchable_base = registers.prefetchable_base.wrapping_add(step),
         _ => registers.prefetchable_limit = registers.prefetchable_limit.wrapping_add(step),
     }
+}
+
+/// Prefetchable comes to lie around 4 GiB, or a new High vector has a granule that begins below it.
+fn claim_around_4_gib(random: &mut Random, picture: &Picture, draft: &mut Draft) {
+    let registers = &mut draft.ports[any_port(random, picture)];
+    if random.percent(50) || !registers.bytes(Which::High).is_empty() {
+        *registers = registers.clone().prefetchable(4_096 - random.below(2), 4_096);
+        return;
+    }
+    let granularity_code = random.between(5, 7) as u32;
+    registers.give_vector(Which::High, VectorShape { size_code: 0, granularity_code, start: 0 });
+    registers.flip_entry(Which::High, 0);
+    registers.set_memory_space(true);
+}
+
+/// Prefetchable, or a new High vector, comes to lie at the end of the address space.
+fn claim_the_top(random: &mut Random, picture: &Picture, draft: &mut Draft) {
+    let registers = &mut draft.ports[any_port(random, picture)];
+    if random.percent(50) || !registers.bytes(Which::High).is_empty() {
+        *registers = registers.clone().prefetchable((1 << 44) - 1, (1 << 44) - 1);
+        return;
+    }
+    let start = (1 << 36) - 1;
+    registers.give_vector(Which::High, VectorShape { size_code: 0, granularity_code: 0, start });
+    registers.bytes_mut(Which::High).fill(0xFF);
+    registers.set_memory_space(true);
 }
 
 /// Memory Space Enable is cleared.

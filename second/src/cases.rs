@@ -134,9 +134,8 @@ pub fn all_cases() -> Vec<Case> {
 /// The one-port picture of the paper, byte by byte.
 pub fn one_port_picture() -> Vec<u8> {
     let mut picture = vec![
-        0x01, 0x00, 0x01, 0x00, 0x48, 0x00, 0x00, 0x00, 0x10, 0x00, 0x00, 0x00, 0x48, 0x00, 0x00,
-        0x00, 0x00, 0xFF, 0x08, 0x00, 0x02, 0x00, 0x01, 0x01, 0x00, 0xE0, 0x00, 0xE0, 0xF0, 0xFF,
-        0x00, 0x00,
+        0x01, 0x00, 0x01, 0x00, 0x48, 0x00, 0x00, 0x00, 0x10, 0x00, 0x00, 0x00, 0x48, 0x00, 0x00, 0x00, 0x00,
+        0xFF, 0x08, 0x00, 0x02, 0x00, 0x01, 0x01, 0x00, 0xE0, 0x00, 0xE0, 0xF0, 0xFF, 0x00, 0x00,
     ];
     picture.extend([0; 36]);
     picture.extend([0x48, 0x00, 0x00, 0x00]);
@@ -148,63 +147,87 @@ fn paper_cases() -> Vec<Case> {
     let rid = |start, granularity, entries: &[u64]| {
         vec![root(0xFFFF).vector(Rid, shape(0, granularity, start), entries)]
     };
-    let low = |entries: &[u64]| {
-        vec![root(0).vector(Low, shape(0, 4, 0x800), entries).with_memory_space(true)]
-    };
-    let high = |entries: &[u64]| {
-        vec![root(0).vector(High, shape(0, 0, 16), entries).with_memory_space(true)]
-    };
+    let low =
+        |entries: &[u64]| vec![root(0).vector(Low, shape(0, 4, 0x800), entries).with_memory_space(true)];
+    let high = |entries: &[u64]| vec![root(0).vector(High, shape(0, 0, 16), entries).with_memory_space(true)];
     vec![
-        raw_case("one port", one_port_picture(), vec![
-            reports("ports 1/clear"),
-            checks(0, 255, 255, None),
-            claims_address(0, 0xE000_0000, true),
-            walks(1, 255, 0xE00F_FFFF, [1, 0, 255, 0], &[0]),
-            walks(0, 255, 0x0008, [2, 0, 255, 0], &[]),
-            walks(0, 0, 0x0008, [2, 0, 255, 0], &[0]),
-        ]),
+        raw_case(
+            "one port",
+            one_port_picture(),
+            vec![
+                reports("ports 1/clear"),
+                checks(0, 255, 255, None),
+                claims_address(0, 0xE000_0000, true),
+                walks(1, 255, 0xE00F_FFFF, [1, 0, 255, 0], &[0]),
+                walks(0, 255, 0x0008, [2, 0, 255, 0], &[]),
+                walks(0, 0, 0x0008, [2, 0, 255, 0], &[0]),
+            ],
+        ),
         case("C1", rid(0, 0, &[255]), vec![claims_id(0, 2_047, true), claims_id(0, 2_039, false)]),
         case("C2", rid(0, 0, &all_256()), vec![claims_id(0, 2_047, true), claims_id(0, 2_048, false)]),
         case("C3", rid(32, 3, &all_256()), vec![claims_id(0, 255, false), claims_id(0, 256, true)]),
-        case("C4", rid(32, 3, &[0]), vec![claims_id(0, 319, true), claims_id(0, 320, false)]),
-        case("C4 again", rid(32, 3, &[1]), vec![claims_id(0, 319, false), claims_id(0, 320, true)]),
-        case("C5", low(&[127]), vec![
-            claims_address(0, 0xFFFF_FFFF, true),
-            claims_address(0, 0xFEFF_FFFF, false),
-        ]),
-        case("C6", low(&all_256()), vec![
-            claims_address(0, 0xFFFF_FFFF, true),
-            claims_address(0, 0x1_0000_0000, false),
-        ]),
-        case("C7", high(&[1]), vec![
-            claims_address(0, 0x1_1000_0000, true),
-            claims_address(0, 0x1_0FFF_FFFF, false),
-            claims_address(0, 0x1_2000_0000, false),
-        ]),
-        case("C8", vec![root(0).memory(0xE01, 0xE00)], vec![
-            claims_address(0, 0xE000_0000, false),
-            claims_address(0, 0xE010_0000, false),
-        ]),
-        case("C9", vec![root(0).memory(0, 0)], vec![
-            claims_address(0, 0, true),
-            claims_address(0, 0xF_FFFF, true),
-            claims_address(0, 0x10_0000, false),
-        ]),
-        case("C10", chain_of_three(downstream_3_to_5()), vec![
-            reports("ports 3/clear"),
-            converts(2, 0x0308, "0 unsupported"),
-            walks(2, 255, 0x0308, [4, 2, 255, 0], &[0, 1]),
-        ]),
-        case("C11", chain_of_three(downstream_3_to_5().with_ari()), vec![
-            converts(2, 0x0308, "0 type-0"),
-            walks(2, 255, 0x0308, [1, 2, 255, 8], &[0, 1, 2]),
-            walks(2, 255, 0x03FF, [1, 2, 255, 0xFF], &[0, 1, 2]),
-        ]),
-        case("C12", chain_of_three(downstream_3_to_5()), vec![
-            converts(2, 0x0400, "0 type-1"),
-            walks(2, 255, 0x0400, [4, 2, 255, 0], &[0, 1, 2]),
-            walks(2, 255, 0x0307, [1, 2, 255, 7], &[0, 1, 2]),
-        ]),
+        case("C4: entry 0", rid(32, 3, &[0]), vec![claims_id(0, 319, true), claims_id(0, 320, false)]),
+        case("C4: entry 1", rid(32, 3, &[1]), vec![claims_id(0, 319, false), claims_id(0, 320, true)]),
+        case(
+            "C5",
+            low(&[127]),
+            vec![claims_address(0, 0xFFFF_FFFF, true), claims_address(0, 0xFEFF_FFFF, false)],
+        ),
+        case(
+            "C6",
+            low(&all_256()),
+            vec![claims_address(0, 0xFFFF_FFFF, true), claims_address(0, 0x1_0000_0000, false)],
+        ),
+        case(
+            "C7",
+            high(&[1]),
+            vec![
+                claims_address(0, 0x1_1000_0000, true),
+                claims_address(0, 0x1_0FFF_FFFF, false),
+                claims_address(0, 0x1_2000_0000, false),
+            ],
+        ),
+        case(
+            "C8",
+            vec![root(0).memory(0xE01, 0xE00)],
+            vec![claims_address(0, 0xE000_0000, false), claims_address(0, 0xE010_0000, false)],
+        ),
+        case(
+            "C9",
+            vec![root(0).memory(0, 0)],
+            vec![
+                claims_address(0, 0, true),
+                claims_address(0, 0xF_FFFF, true),
+                claims_address(0, 0x10_0000, false),
+            ],
+        ),
+        case(
+            "C10",
+            chain_of_three(downstream_3_to_5()),
+            vec![
+                reports("ports 3/clear"),
+                converts(2, 0x0308, "0 unsupported"),
+                walks(2, 255, 0x0308, [4, 2, 255, 0], &[0, 1]),
+            ],
+        ),
+        case(
+            "C11",
+            chain_of_three(downstream_3_to_5().with_ari()),
+            vec![
+                converts(2, 0x0308, "0 type-0"),
+                walks(2, 255, 0x0308, [1, 2, 255, 8], &[0, 1, 2]),
+                walks(2, 255, 0x03FF, [1, 2, 255, 0xFF], &[0, 1, 2]),
+            ],
+        ),
+        case(
+            "C12",
+            chain_of_three(downstream_3_to_5()),
+            vec![
+                converts(2, 0x0400, "0 type-1"),
+                walks(2, 255, 0x0400, [4, 2, 255, 0], &[0, 1, 2]),
+                walks(2, 255, 0x0307, [1, 2, 255, 7], &[0, 1, 2]),
+            ],
+        ),
     ]
 }
 
@@ -238,73 +261,103 @@ fn answer_cases() -> Vec<Case> {
     eight_and_nine[2].give_vector(Rid, shape(0, 3, 1));
     eight_and_nine[5].memory_base = 0xFFF1;
     vec![
-        raw_case("decision 1: the end of the vectors", one_byte_more, vec![
-            reports("refused 10 ports 255"),
-            checks(10, 255, 255, None),
-        ]),
-        raw_case("decision 1: no port named", edition_2.clone(), vec![
-            reports("refused 2"),
-            checks(2, 255, 255, None),
-        ]),
-        case("decision 2: a port claims its own ID", claims_own, vec![
-            reports("refused 11 id 0308 ports 4 4"),
-            checks(11, 4, 4, Some(0x0308)),
-        ]),
-        raw_case("decision 3: reading comes before 16", edition_2, vec![
-            walk_refused(3, 254, 0x1_0000, 2, 255),
-            (Record::Claim { port: 99, target_kind: 0, target: 0 }, "2".to_string()),
-            converts(99, 0x1_0000, "2"),
-        ]),
-        raw_case("decision 3: number 16", one_port_picture(), vec![
-            walk_refused(3, 255, 0, 16, 255),
-            walk_refused(0, 255, 0x1_0000, 16, 255),
-            walk_refused(2, 255, 0x1_0000_0000, 16, 255),
-            walk_refused(1, 1, 0, 16, 255),
-            (Record::Claim { port: 1, target_kind: 0, target: 0 }, "16".to_string()),
-            (Record::Claim { port: 0, target_kind: 0, target: 0x1_0000 }, "16".to_string()),
-            converts(1, 0, "16"),
-            converts(0, 0x1_0000, "16"),
-        ]),
-        raw_case("decision 4: no ports at the host", one_port_picture(), vec![
-            walks(0, 255, 0xFFFF, [3, 255, 255, 0], &[]),
-            walks(2, 255, 0xFFFF, [3, 255, 255, 0], &[]),
-            walks(1, 0, 0, [3, 255, 255, 0], &[0]),
-        ]),
-        case("decision 5: all ports before the next number", eight_and_nine, vec![
-            reports("refused 8 ports 5"),
-            checks(8, 5, 255, None),
-        ]),
-        case("decision 6: the check's answer", vec![root(1), up(0, 0x0308)], vec![
-            reports("refused 13 id 0308 ports 1"),
-            checks(13, 1, 255, Some(0x0308)),
-        ]),
-        case("decision 7: own ID before claim", vec![root(0x0308).buses(3, 3)], vec![
-            walks(0, 255, 0x0308, [2, 0, 255, 0], &[]),
-            walks(2, 255, 0x0308, [2, 0, 255, 0], &[]),
-            walks(0, 0, 0x0308, [4, 0, 255, 0], &[]),
-        ]),
-        case("decision 8: 2, 9 before 4, 4", pairs_at_0500(0x0003), vec![
-            reports("refused 11 id 0500 ports 2 9"),
-            checks(11, 2, 9, Some(0x0500)),
-        ]),
-        case("decision 8: 2, 2 before both", pairs_at_0500(0x0500), vec![
-            reports("refused 11 id 0500 ports 2 2"),
-        ]),
-        case("decision 9: doubled holders", vec![root(0x0308), root(1), root(2).buses(3, 3), root(3).buses(3, 4)], vec![
-            walks(2, 255, 0x0308, [5, 0, 2, 0], &[]),
-            walks(2, 255, 0x0309, [5, 2, 3, 0], &[]),
-        ]),
-        case("decision 9: doubled own IDs and claims", doubled_below_a_switch(), vec![
-            walks(2, 255, 0x0200, [5, 3, 4, 0], &[0, 1]),
-            walks(2, 255, 0x0400, [5, 2, 4, 0], &[0, 1]),
-        ]),
-        raw_case("decision 10: nothing is cut off", one_port_picture(), vec![
-            walk_refused(0, 300, 8, 16, 255),
-            walk_refused(0, 256, 8, 16, 255),
-            walk_refused(0, 511, 8, 16, 255),
-            walk_refused(256, 255, 8, 16, 255),
-            walk_refused(0, 255, 0x1_0008, 16, 255),
-        ]),
+        raw_case(
+            "decision 1: the end of the vectors",
+            one_byte_more,
+            vec![reports("refused 10 ports 255"), checks(10, 255, 255, None)],
+        ),
+        raw_case(
+            "decision 1: no port named",
+            edition_2.clone(),
+            vec![reports("refused 2"), checks(2, 255, 255, None)],
+        ),
+        case(
+            "decision 2: a port claims its own ID",
+            claims_own,
+            vec![reports("refused 11 id 0308 ports 4 4"), checks(11, 4, 4, Some(0x0308))],
+        ),
+        raw_case(
+            "decision 3: reading comes before 16",
+            edition_2,
+            vec![
+                walk_refused(3, 254, 0x1_0000, 2, 255),
+                (Record::Claim { port: 99, target_kind: 0, target: 0 }, "2".to_string()),
+                converts(99, 0x1_0000, "2"),
+            ],
+        ),
+        raw_case(
+            "decision 3: number 16",
+            one_port_picture(),
+            vec![
+                walk_refused(3, 255, 0, 16, 255),
+                walk_refused(0, 255, 0x1_0000, 16, 255),
+                walk_refused(2, 255, 0x1_0000_0000, 16, 255),
+                walk_refused(1, 1, 0, 16, 255),
+                (Record::Claim { port: 1, target_kind: 0, target: 0 }, "16".to_string()),
+                (Record::Claim { port: 0, target_kind: 0, target: 0x1_0000 }, "16".to_string()),
+                converts(1, 0, "16"),
+                converts(0, 0x1_0000, "16"),
+            ],
+        ),
+        raw_case(
+            "decision 4: no ports at the host",
+            one_port_picture(),
+            vec![
+                walks(0, 255, 0xFFFF, [3, 255, 255, 0], &[]),
+                walks(2, 255, 0xFFFF, [3, 255, 255, 0], &[]),
+                walks(1, 0, 0, [3, 255, 255, 0], &[0]),
+            ],
+        ),
+        case(
+            "decision 5: all ports before the next number",
+            eight_and_nine,
+            vec![reports("refused 8 ports 5"), checks(8, 5, 255, None)],
+        ),
+        case(
+            "decision 6: the check's answer",
+            vec![root(1), up(0, 0x0308)],
+            vec![reports("refused 13 id 0308 ports 1"), checks(13, 1, 255, Some(0x0308))],
+        ),
+        case(
+            "decision 7: own ID before claim",
+            vec![root(0x0308).buses(3, 3)],
+            vec![
+                walks(0, 255, 0x0308, [2, 0, 255, 0], &[]),
+                walks(2, 255, 0x0308, [2, 0, 255, 0], &[]),
+                walks(0, 0, 0x0308, [4, 0, 255, 0], &[]),
+            ],
+        ),
+        case(
+            "decision 8: 2, 9 before 4, 4",
+            pairs_at_0500(0x0003),
+            vec![reports("refused 11 id 0500 ports 2 9"), checks(11, 2, 9, Some(0x0500))],
+        ),
+        case(
+            "decision 8: 2, 2 before both",
+            pairs_at_0500(0x0500),
+            vec![reports("refused 11 id 0500 ports 2 2")],
+        ),
+        case(
+            "decision 9: doubled holders",
+            vec![root(0x0308), root(1), root(2).buses(3, 3), root(3).buses(3, 4)],
+            vec![walks(2, 255, 0x0308, [5, 0, 2, 0], &[]), walks(2, 255, 0x0309, [5, 2, 3, 0], &[])],
+        ),
+        case(
+            "decision 9: doubled own IDs and claims",
+            doubled_below_a_switch(),
+            vec![walks(2, 255, 0x0200, [5, 3, 4, 0], &[0, 1]), walks(2, 255, 0x0400, [5, 2, 4, 0], &[0, 1])],
+        ),
+        raw_case(
+            "decision 10: nothing is cut off",
+            one_port_picture(),
+            vec![
+                walk_refused(0, 300, 8, 16, 255),
+                walk_refused(0, 256, 8, 16, 255),
+                walk_refused(0, 511, 8, 16, 255),
+                walk_refused(256, 255, 8, 16, 255),
+                walk_refused(0, 255, 0x1_0008, 16, 255),
+            ],
+        ),
     ]
 }
 
@@ -346,48 +399,68 @@ fn register_cases() -> Vec<Case> {
         .with_memory_space(true);
     let high_from_0 = root(0).vector(High, shape(0, 0, 0), &(0..16).collect::<Vec<_>>());
     vec![
-        case("decision 12: ARI and granularity 0", vec![ari().vector(Rid, shape(0, 0, 32), &[0])], vec![
-            reports("ports 1/clear"),
-        ]),
-        case("decision 12: ARI and Secondary Start", vec![ari()
-            .vector(Rid, shape(0, 5, 32), &[0])
-            .secondary_range(0x21, 0)], vec![
-            reports("ports 1/clear"),
-            converts(0, 0x01F9, "0 type-0"),
-            walks(2, 255, 0x01F9, [1, 0, 255, 0xF9], &[0]),
-        ]),
+        case(
+            "decision 12: ARI and granularity 0",
+            vec![ari().vector(Rid, shape(0, 0, 32), &[0])],
+            vec![reports("ports 1/clear")],
+        ),
+        case(
+            "decision 12: ARI and Secondary Start",
+            vec![ari().vector(Rid, shape(0, 5, 32), &[0]).secondary_range(0x21, 0)],
+            vec![
+                reports("ports 1/clear"),
+                converts(0, 0x01F9, "0 type-0"),
+                walks(2, 255, 0x01F9, [1, 0, 255, 0xF9], &[0]),
+            ],
+        ),
         case("decision 13: VGA Enable is not used", vec![vga], vec![claims_address(0, 0xA_0000, false)]),
-        case("decision 14: entries past the space", vec![edge_vectors, root(1).prefetchable(4096, 4096)], vec![
-            reports("ports 2/clear"),
-            claims_id(0, 0xFFF8, true),
-            claims_id(0, 0, false),
-            claims_address(0, 0xFFFF_FFFF, true),
-            claims_address(0, 0x1_0000_0000, false),
-            claims_address(0, u64::MAX, true),
-            claims_address(0, 0, false),
-        ]),
-        case("decision 14: High entries below 4 GiB", vec![high_from_0.with_memory_space(true)], vec![
-            reports("ports 1/clear"),
-            claims_address(0, 0, false),
-            claims_address(0, 0xFFFF_FFFF, false),
-        ]),
+        case(
+            "decision 14: entries past the space",
+            vec![edge_vectors, root(1).prefetchable(4096, 4096)],
+            vec![
+                reports("ports 2/clear"),
+                claims_id(0, 0xFFF8, true),
+                claims_id(0, 0, false),
+                claims_address(0, 0xFFFF_FFFF, true),
+                claims_address(0, 0x1_0000_0000, false),
+                claims_address(0, u64::MAX, true),
+                claims_address(0, 0, false),
+            ],
+        ),
+        case(
+            "decision 14: High entries below 4 GiB",
+            vec![high_from_0.with_memory_space(true)],
+            vec![
+                reports("ports 1/clear"),
+                claims_address(0, 0, false),
+                claims_address(0, 0xFFFF_FFFF, false),
+            ],
+        ),
         case("decision 15: reserved bits", vec![reserved], vec![reports("ports 1/clear")]),
-        case("decision 16: supported, not enabled", vec![not_enabled], vec![
-            reports("ports 1/clear"),
-            claims_id(0, 0xFFFF, false),
-        ]),
-        case("decision 16: its size still counts", vec![not_enabled_reserved], vec![reports("refused 8 ports 0")]),
+        case(
+            "decision 16: supported, not enabled",
+            vec![not_enabled],
+            vec![reports("ports 1/clear"), claims_id(0, 0xFFFF, false)],
+        ),
+        case(
+            "decision 16: its size still counts",
+            vec![not_enabled_reserved],
+            vec![reports("refused 8 ports 0")],
+        ),
         case("decision 21: Memory Space Enable off", vec![memory_off], vec![reports("refused 8 ports 0")]),
-        case("decision 22: ARI rule of number 9", vec![ari().vector(Rid, shape(0, 0, 31), &[])], vec![
-            reports("refused 9 ports 0"),
-        ]),
-        case("decision 22: ARI means nothing upstream", vec![
-            root(0).buses(1, 1),
-            up(0, 0x0100).with_ari().vector(Rid, shape(0, 0, 33), &[]).secondary_range(33, 0),
-        ], vec![
-            reports("ports 2/clear"),
-            walks(2, 255, 0x0100, [2, 1, 255, 0], &[0]),
-        ]),
+        case(
+            "decision 22: ARI rule of number 9",
+            vec![ari().vector(Rid, shape(0, 0, 31), &[])],
+            vec![reports("refused 9 ports 0")],
+        ),
+        case(
+            "decision 22: ARI means nothing upstream",
+            vec![
+                root(0).buses(1, 1),
+                up(0, 0x0100).with_ari().vector(Rid, shape(0, 0, 33), &[]).secondary_range(33, 0),
+            ],
+            vec![reports("ports 2/clear"), walks(2, 255, 0x0100, [2, 1, 255, 0], &[0])],
+        ),
     ]
 }
 
@@ -439,71 +512,104 @@ fn walking_cases() -> Vec<Case> {
         down(1, 0xFFF8),
         down(1, 0x0200),
     ];
-    let by_pair_only = vec![root(0x0008).buses(1, 3).vector(Rid, shape(0, 0, 0), &[]).secondary_range(0x61, 0)];
+    let by_pair_only =
+        vec![root(0x0008).buses(1, 3).vector(Rid, shape(0, 0, 0), &[]).secondary_range(0x61, 0)];
     vec![
-        case("decision 23: what is crossed", chain_of_three(downstream_3_to_5()), vec![
-            walks(2, 255, 0x0300, [1, 2, 255, 0], &[0, 1, 2]),
-            walks(2, 255, 0x0310, [4, 2, 255, 0], &[0, 1]),
-            walks(2, 255, 0x0108, [4, 0, 255, 0], &[]),
-            walks(2, 2, 0x0300, [4, 2, 255, 0], &[]),
-        ]),
-        case("decision 24: own IDs under Type 0", vec![
-            root(0x0008).buses(1, 5),
-            up(0, 0x0100).buses(2, 5),
-            down(1, 0x0200).buses(4, 4),
-            down(1, 0x0201).buses(2, 2),
-        ], vec![
-            walks(2, 255, 0x0200, [2, 2, 255, 0], &[0, 1]),
-            walks(2, 255, 0x0208, [4, 1, 255, 0], &[0, 1]),
-        ]),
-        case("decision 24: claims under Type 1", vec![
-            root(0x0008).buses(1, 5),
-            up(0, 0x0100).buses(2, 5),
-            down(1, 0x0400).buses(4, 4),
-            down(1, 0x0408),
-        ], vec![
-            walks(2, 255, 0x0400, [1, 2, 255, 0], &[0, 1, 2]),
-            walks(2, 255, 0x0408, [4, 2, 255, 0], &[0, 1]),
-            walks(2, 255, 0x0500, [4, 1, 255, 0], &[0, 1]),
-        ]),
-        case("decision 25: no wrap past unit 8,191", flattened, vec![
-            converts(1, 0xFFF8, "0 type-0"),
-            converts(1, 0xFFF0, "0 type-1"),
-            converts(1, 0x0000, "0 type-1"),
-            walks(2, 255, 0xFFF8, [2, 2, 255, 0], &[0, 1]),
-            walks(2, 255, 0x0200, [2, 3, 255, 0], &[0, 1]),
-            walks(2, 255, 0x0300, [4, 1, 255, 0], &[0, 1]),
-        ]),
-        case("decision 25: an ID that only the pair claims", by_pair_only, vec![
-            converts(0, 0x0308, "0 type-0"),
-            converts(0, 0x0300, "0 type-1"),
-            converts(0, 0x0100, "0 type-0"),
-            converts(0, 0x0108, "0 unsupported"),
-            converts(0, 0x0400, "0 not-claimed"),
-        ]),
-        case("decision 26: bus pair from 0", vec![root(0xFFFF).buses(0, 1), root(0xFFFE).buses(0, 0), root(0xFFFD).buses(3, 2)], vec![
-            reports("ports 3/clear"),
-            claims_id(0, 0, true),
-            claims_id(0, 0x01FF, true),
-            claims_id(0, 0x0200, false),
-            claims_id(1, 0, false),
-            claims_id(2, 0x0300, false),
-            claims_id(2, 0x0200, false),
-        ]),
-        case("decision 26: own decoders may overlap", vec![root(0)
-            .memory(0, 0xFFF)
-            .prefetchable(0, 0xF_FFFF)
-            .vector(Low, shape(0, 0, 0), &[0])
-            .buses(1, 1)
-            .vector(Rid, shape(0, 5, 0), &[1])], vec![reports("ports 1/clear")]),
-        case("decision 27: upstream without children", vec![root(0).buses(1, 2), up(0, 0x0100).buses(2, 2)], vec![
-            reports("ports 2/clear"),
-            walks(0, 255, 0x0200, [4, 1, 255, 0], &[0, 1]),
-            walks(2, 255, 0x0200, [4, 1, 255, 0], &[0, 1]),
-            walks(0, 255, 0x0101, [4, 0, 255, 0], &[0]),
-            walk_refused(0, 1, 0x0200, 16, 255),
-            walk_refused(0, 0, 0x0200, 16, 255),
-        ]),
+        case(
+            "decision 23: what is crossed",
+            chain_of_three(downstream_3_to_5()),
+            vec![
+                walks(2, 255, 0x0300, [1, 2, 255, 0], &[0, 1, 2]),
+                walks(2, 255, 0x0310, [4, 2, 255, 0], &[0, 1]),
+                walks(2, 255, 0x0108, [4, 0, 255, 0], &[]),
+                walks(2, 2, 0x0300, [4, 2, 255, 0], &[]),
+            ],
+        ),
+        case(
+            "decision 24: own IDs under Type 0",
+            vec![
+                root(0x0008).buses(1, 5),
+                up(0, 0x0100).buses(2, 5),
+                down(1, 0x0200).buses(4, 4),
+                down(1, 0x0201).buses(2, 2),
+            ],
+            vec![
+                walks(2, 255, 0x0200, [2, 2, 255, 0], &[0, 1]),
+                walks(2, 255, 0x0208, [4, 1, 255, 0], &[0, 1]),
+            ],
+        ),
+        case(
+            "decision 24: claims under Type 1",
+            vec![
+                root(0x0008).buses(1, 5),
+                up(0, 0x0100).buses(2, 5),
+                down(1, 0x0400).buses(4, 4),
+                down(1, 0x0408),
+            ],
+            vec![
+                walks(2, 255, 0x0400, [1, 2, 255, 0], &[0, 1, 2]),
+                walks(2, 255, 0x0408, [4, 2, 255, 0], &[0, 1]),
+                walks(2, 255, 0x0500, [4, 1, 255, 0], &[0, 1]),
+            ],
+        ),
+        case(
+            "decision 25: no wrap past unit 8,191",
+            flattened,
+            vec![
+                converts(1, 0xFFF8, "0 type-0"),
+                converts(1, 0xFFF0, "0 type-1"),
+                converts(1, 0x0000, "0 type-1"),
+                walks(2, 255, 0xFFF8, [2, 2, 255, 0], &[0, 1]),
+                walks(2, 255, 0x0200, [2, 3, 255, 0], &[0, 1]),
+                walks(2, 255, 0x0300, [4, 1, 255, 0], &[0, 1]),
+            ],
+        ),
+        case(
+            "decision 25: an ID that only the pair claims",
+            by_pair_only,
+            vec![
+                converts(0, 0x0308, "0 type-0"),
+                converts(0, 0x0300, "0 type-1"),
+                converts(0, 0x0100, "0 type-0"),
+                converts(0, 0x0108, "0 unsupported"),
+                converts(0, 0x0400, "0 not-claimed"),
+            ],
+        ),
+        case(
+            "decision 26: bus pair from 0",
+            vec![root(0xFFFF).buses(0, 1), root(0xFFFE).buses(0, 0), root(0xFFFD).buses(3, 2)],
+            vec![
+                reports("ports 3/clear"),
+                claims_id(0, 0, true),
+                claims_id(0, 0x01FF, true),
+                claims_id(0, 0x0200, false),
+                claims_id(1, 0, false),
+                claims_id(2, 0x0300, false),
+                claims_id(2, 0x0200, false),
+            ],
+        ),
+        case(
+            "decision 26: own decoders may overlap",
+            vec![root(0)
+                .memory(0, 0xFFF)
+                .prefetchable(0, 0xF_FFFF)
+                .vector(Low, shape(0, 0, 0), &[0])
+                .buses(1, 1)
+                .vector(Rid, shape(0, 5, 0), &[1])],
+            vec![reports("ports 1/clear")],
+        ),
+        case(
+            "decision 27: upstream without children",
+            vec![root(0).buses(1, 2), up(0, 0x0100).buses(2, 2)],
+            vec![
+                reports("ports 2/clear"),
+                walks(0, 255, 0x0200, [4, 1, 255, 0], &[0, 1]),
+                walks(2, 255, 0x0200, [4, 1, 255, 0], &[0, 1]),
+                walks(0, 255, 0x0101, [4, 0, 255, 0], &[0]),
+                walk_refused(0, 1, 0x0200, 16, 255),
+                walk_refused(0, 0, 0x0200, 16, 255),
+            ],
+        ),
     ]
 }
 
@@ -518,81 +624,121 @@ fn first_build_cases() -> Vec<Case> {
     let mut all_zero_prefetchable = root(0).with_memory_space(true);
     all_zero_prefetchable.prefetchable_base = 0;
     vec![
-        case("4 GiB is the edge of no register", vec![high(0, 5, 0, &[0]), high(1, 6, 0, &[0])], vec![
-            reports("refused 12 addr 0000000100000000 ports 0 1"),
-            checks(12, 0, 1, Some(0x1_0000_0000)),
-        ]),
-        case("4 GiB is the least address not claimed above", vec![
-            root(1).buses(1, 1),
-            DraftPort { kind: UPSTREAM, parent: 0, ..high(0x0100, 7, 0, &[0]) },
-        ], vec![reports("refused 14 addr 0000000100000000 ports 1")]),
-        case("the last address", vec![root(0).memory(0, 0), top()], vec![
-            reports("ports 2/clear"),
-            claims_address(1, u64::MAX, true),
-            claims_address(1, u64::MAX - 0xF_FFFF, true),
-            claims_address(1, u64::MAX - 0x10_0000, false),
-            claims_address(1, 0, false),
-            walks(1, 255, u64::MAX, [1, 1, 255, 0], &[1]),
-        ]),
-        case("overlap at the last MiB", vec![high(0, 0, 0xF_FFFF_FFFF, &[0]), top()], vec![
-            reports("refused 12 addr fffffffffff00000 ports 0 1"),
-        ]),
-        case("High does not come round", vec![
-            high(0, 0, 0xF_FFFF_FFFF, &all_256()),
-            high(1, 0, 16, &[0]),
-            high(2, 7, 0xF_FFFF_FF00, &[2, 3]),
-        ], vec![
-            reports("ports 3/clear"),
-            claims_address(0, 0x1_0000_0000, false),
-            claims_address(0, u64::MAX, true),
-            claims_address(2, u64::MAX, false),
-        ]),
-        case("all-zero Prefetchable", vec![all_zero_prefetchable], vec![
-            claims_address(0, 0, true),
-            claims_address(0, 0xF_FFFF, true),
-            claims_address(0, 0x10_0000, false),
-        ]),
-        case("31 crossings", [chain(0, 15, 1), chain(15, 16, 2)].concat(), vec![
-            walks(1, 14, 0x20_0000, [4, 30, 255, 0], &[
-                14, 13, 12, 11, 10, 9, 8, 7, 6, 5, 4, 3, 2, 1, 0, 15, 16, 17, 18, 19, 20, 21, 22,
-                23, 24, 25, 26, 27, 28, 29, 30,
-            ]),
-        ]),
-        case("overlap at FFFFh", vec![root(0xFFFF), last_unit(0)], vec![
-            reports("refused 11 id ffff ports 0 1"),
-            checks(11, 0, 1, Some(0xFFFF)),
-        ]),
-        case("overlap of the last unit", vec![last_unit(0), root(0x0001), last_unit(2)], vec![
-            reports("refused 11 id fff8 ports 0 2"),
-        ]),
-        case("overlap far apart in number", (0..10u16)
-            .map(|port| match port {
-                2 => root(2).vector(Rid, shape(0, 0, 0x60), &[7]),
-                9 => root(9).buses(3, 3),
-                _ => root(port),
-            })
-            .collect(), vec![reports("refused 11 id 0338 ports 2 9")]),
-        case("overlap between granularities", vec![
-            root(0).vector(Low, shape(0, 0, 0x10), &[3, 9]).with_memory_space(true),
-            root(1).vector(Low, shape(0, 3, 0x10), &[1]).with_memory_space(true),
-        ], vec![reports("refused 12 addr 0000000001900000 ports 0 1")]),
-        case("Prefetchable against High", vec![
-            root(0).prefetchable(0x1030, 0x1031),
-            high(1, 0, 16, &[0]),
-        ], vec![reports("refused 12 addr 0000000103000000 ports 0 1")]),
-        case("number 15 by itself", vec![
-            root(0x0008).buses(1, 5),
-            up(0, 0x0100).buses(2, 5),
-            down(1, 0x0300),
-        ], vec![
-            reports("refused 15 ports 2"),
-            checks(15, 2, 255, None),
-        ]),
-        case("a completion for a downstream port", chain_of_three(downstream_3_to_5()), vec![
-            walks(0, 2, 0x0200, [2, 2, 255, 0], &[2]),
-            walks(0, 2, 0x0100, [2, 1, 255, 0], &[2, 1]),
-            walks(0, 2, 0x0008, [2, 0, 255, 0], &[2, 1, 0]),
-            walks(0, 2, 0x0300, [4, 2, 255, 0], &[]),
-        ]),
+        case(
+            "first build: 4 GiB is the edge of no register",
+            vec![high(0, 5, 0, &[0]), high(1, 6, 0, &[0])],
+            vec![
+                reports("refused 12 addr 0000000100000000 ports 0 1"),
+                checks(12, 0, 1, Some(0x1_0000_0000)),
+            ],
+        ),
+        case(
+            "first build: 4 GiB is the least address not claimed above",
+            vec![root(1).buses(1, 1), DraftPort { kind: UPSTREAM, parent: 0, ..high(0x0100, 7, 0, &[0]) }],
+            vec![reports("refused 14 addr 0000000100000000 ports 1")],
+        ),
+        case(
+            "first build: the last address",
+            vec![root(0).memory(0, 0), top()],
+            vec![
+                reports("ports 2/clear"),
+                claims_address(1, u64::MAX, true),
+                claims_address(1, u64::MAX - 0xF_FFFF, true),
+                claims_address(1, u64::MAX - 0x10_0000, false),
+                claims_address(1, 0, false),
+                walks(1, 255, u64::MAX, [1, 1, 255, 0], &[1]),
+            ],
+        ),
+        case(
+            "first build: overlap at the last MiB",
+            vec![high(0, 0, 0xF_FFFF_FFFF, &[0]), top()],
+            vec![reports("refused 12 addr fffffffffff00000 ports 0 1")],
+        ),
+        case(
+            "first build: High does not come round",
+            vec![
+                high(0, 0, 0xF_FFFF_FFFF, &all_256()),
+                high(1, 0, 16, &[0]),
+                high(2, 7, 0xF_FFFF_FF00, &[2, 3]),
+            ],
+            vec![
+                reports("ports 3/clear"),
+                claims_address(0, 0x1_0000_0000, false),
+                claims_address(0, u64::MAX, true),
+                claims_address(2, u64::MAX, false),
+            ],
+        ),
+        case(
+            "first build: all-zero Prefetchable",
+            vec![all_zero_prefetchable],
+            vec![
+                claims_address(0, 0, true),
+                claims_address(0, 0xF_FFFF, true),
+                claims_address(0, 0x10_0000, false),
+            ],
+        ),
+        case(
+            "first build: 31 crossings",
+            [chain(0, 15, 1), chain(15, 16, 2)].concat(),
+            vec![walks(
+                1,
+                14,
+                0x20_0000,
+                [4, 30, 255, 0],
+                &[
+                    14, 13, 12, 11, 10, 9, 8, 7, 6, 5, 4, 3, 2, 1, 0, 15, 16, 17, 18, 19, 20, 21, 22, 23, 24,
+                    25, 26, 27, 28, 29, 30,
+                ],
+            )],
+        ),
+        case(
+            "first build: overlap at FFFFh",
+            vec![root(0xFFFF), last_unit(0)],
+            vec![reports("refused 11 id ffff ports 0 1"), checks(11, 0, 1, Some(0xFFFF))],
+        ),
+        case(
+            "first build: overlap of the last unit",
+            vec![last_unit(0), root(0x0001), last_unit(2)],
+            vec![reports("refused 11 id fff8 ports 0 2")],
+        ),
+        case(
+            "first build: overlap far apart in number",
+            (0..10u16)
+                .map(|port| match port {
+                    2 => root(2).vector(Rid, shape(0, 0, 0x60), &[7]),
+                    9 => root(9).buses(3, 3),
+                    _ => root(port),
+                })
+                .collect(),
+            vec![reports("refused 11 id 0338 ports 2 9")],
+        ),
+        case(
+            "first build: overlap between granularities",
+            vec![
+                root(0).vector(Low, shape(0, 0, 0x10), &[3, 9]).with_memory_space(true),
+                root(1).vector(Low, shape(0, 3, 0x10), &[1]).with_memory_space(true),
+            ],
+            vec![reports("refused 12 addr 0000000001900000 ports 0 1")],
+        ),
+        case(
+            "first build: Prefetchable against High",
+            vec![root(0).prefetchable(0x1030, 0x1031), high(1, 0, 16, &[0])],
+            vec![reports("refused 12 addr 0000000103000000 ports 0 1")],
+        ),
+        case(
+            "first build: number 15 by itself",
+            vec![root(0x0008).buses(1, 5), up(0, 0x0100).buses(2, 5), down(1, 0x0300)],
+            vec![reports("refused 15 ports 2"), checks(15, 2, 255, None)],
+        ),
+        case(
+            "first build: a completion for a downstream port",
+            chain_of_three(downstream_3_to_5()),
+            vec![
+                walks(0, 2, 0x0200, [2, 2, 255, 0], &[2]),
+                walks(0, 2, 0x0100, [2, 1, 255, 0], &[2, 1]),
+                walks(0, 2, 0x0008, [2, 0, 255, 0], &[2, 1, 0]),
+                walks(0, 2, 0x0300, [4, 2, 255, 0], &[]),
+            ],
+        ),
     ]
 }

@@ -5,12 +5,12 @@ use crate::breaking::{break_once, shake};
 use crate::cases::all_cases;
 use crate::draft::Draft;
 use crate::judge::Judge;
-use crate::picture::{Picture, Port, Vector, FOUR_GIB};
+use crate::picture::{Picture, Port, Refusal, Target, Vector, FOUR_GIB};
 use crate::random::Random;
 use crate::sound::{fill, Taste};
 use crate::spoil::{chain_at_the_edge, reading_edges, spoil};
 use crate::topology::{grow, port_count, ALL_FORMS};
-use crate::wild::{add_noise, wild};
+use crate::wild::{add_noise, make_memory_wild, wild};
 
 /// Numbers that are no start anywhere, whatever they are cut to.
 const BAD_STARTS: [u32; 8] = [64, 254, 256, 300, 511, 0xFF00, 0x1_0000, u32::MAX];
@@ -52,37 +52,30 @@ pub fn hand_written() -> Vec<u8> {
     batch
 }
 
-/// A picture of one of the families: spoiled, wild, sound, broken once, or shaken.
+/// A picture of one of the families: spoiled, wild, sound, broken once, wild in memory, or shaken.
 fn random_picture(random: &mut Random) -> Vec<u8> {
-    match random.below(20) {
-        0 => chain_at_the_edge(random),
-        1..=4 => {
-            let good = if random.percent(50) { wild(random) } else { sound_draft(random) };
-            let mut picture = noisy_bytes(random, good);
-            spoil(random, &mut picture);
-            picture
-        }
-        5..=8 => {
-            let draft = wild(random);
-            noisy_bytes(random, draft)
-        }
-        9..=12 => {
-            let draft = sound_draft(random);
-            noisy_bytes(random, draft)
-        }
-        13..=17 => {
-            let sound = sound_draft(random);
-            let number = random.between(11, 15) as u8;
-            let broken = break_once(random, &sound, number);
-            noisy_bytes(random, broken)
-        }
+    if random.percent(2) {
+        return chain_at_the_edge(random);
+    }
+    let family = random.below(20);
+    let mut draft = if family < 5 { wild(random) } else { sound_draft(random) };
+    match family {
+        0..=9 => {}
+        10..=15 => draft = break_once(random, &draft),
+        16 | 17 => make_memory_wild(random, &mut draft),
         _ => {
-            let sound = sound_draft(random);
             let times = random.between(2, 8);
-            let shaken = shake(random, &sound, times);
-            noisy_bytes(random, shaken)
+            draft = shake(random, &draft, times);
         }
     }
+    if random.percent(50) {
+        add_noise(random, &mut draft);
+    }
+    let mut picture = draft.bytes();
+    if matches!(family, 3..=6) {
+        spoil(random, &mut picture);
+    }
+    picture
 }
 
 /// A random sound picture.
@@ -94,25 +87,36 @@ pub fn sound_draft(random: &mut Random) -> Draft {
     fill(random, ports, &taste)
 }
 
-/// The bytes of a draft, in half of the cases with noise that must not matter.
-fn noisy_bytes(random: &mut Random, mut draft: Draft) -> Vec<u8> {
-    if random.percent(50) {
-        add_noise(random, &mut draft);
-    }
-    draft.bytes()
-}
-
 /// Writes a picture, its report and check, and calls that suit it.
 fn write_with_calls(random: &mut Random, picture: Vec<u8>, batch: &mut Vec<u8>) {
     let judge = Judge::new(&picture);
     Record::Picture(picture).write(batch);
     Record::Report.write(batch);
     Record::Check.write(batch);
-    let calls = match judge.reading() {
+    let mut calls = match judge.reading() {
         Ok(picture) => calls_on(random, picture),
         Err(_) => calls_on_nothing(random),
     };
+    if let (Ok(picture), Err(Refusal { target: Some(least), .. })) = (judge.reading(), judge.check()) {
+        calls.extend(calls_on_least_target(random, picture, least));
+    }
     calls.iter().for_each(|call| call.write(batch));
+}
+
+/// Walks to the least target of a check and just below it, from the host and from device ports.
+fn calls_on_least_target(random: &mut Random, picture: &Picture, least: Target) -> Vec<Record> {
+    let (kinds, target): (&[u32], u64) = match least {
+        Target::Id(id) => (&[0, 0, 2], id as u64),
+        Target::Address(address) => (&[1], address),
+    };
+    let mut starts = vec![255];
+    starts.extend((0..picture.ports.len() as u32).filter(|&port| picture.is_device_port(port as usize)));
+    let mut calls = vec![Record::Walk { kind: kinds[0], start: 255, target }];
+    for _ in 0..4 {
+        let target = target.saturating_sub(random.pick(&[0, 0, 0, 1]));
+        calls.push(Record::Walk { kind: random.pick(kinds), start: random.pick(&starts), target });
+    }
+    calls
 }
 
 /// A few calls on a picture that does not read; some would be refused anyway.
@@ -158,20 +162,22 @@ fn walk_call(random: &mut Random, picture: &Picture, kind: u32) -> Record {
     } else {
         deepest_of_two(random, picture, &device_ports) as u32
     };
-    let target = if kind == 1 { some_address(random, picture) } else { some_id(random, picture) };
+    let aim = some_aim(random, picture);
+    let target = if kind == 1 { address_around(random, aim) } else { id_around(random, aim) };
     Record::Walk { kind, start, target }
 }
 
 /// A claim by some port, or by one beyond the count.
 fn claim_call(random: &mut Random, picture: &Picture, target_kind: u32) -> Record {
-    let port = some_port_number(random, picture);
-    let target = if target_kind == 1 { some_address(random, picture) } else { some_id(random, picture) };
+    let (port, aim) = some_port_and_aim(random, picture);
+    let target = if target_kind == 1 { address_around(random, aim) } else { id_around(random, aim) };
     Record::Claim { port, target_kind, target }
 }
 
 /// A conversion by some port, or by one beyond the count.
 fn conversion_call(random: &mut Random, picture: &Picture) -> Record {
-    Record::Conversion { port: some_port_number(random, picture), id: some_id(random, picture) }
+    let (port, aim) = some_port_and_aim(random, picture);
+    Record::Conversion { port, id: id_around(random, aim) }
 }
 
 /// A port of the picture.
@@ -182,15 +188,22 @@ fn random_port(random: &mut Random, picture: &Picture) -> usize {
 /// The deeper of two random ports of a list.
 fn deepest_of_two(random: &mut Random, picture: &Picture, ports: &[usize]) -> usize {
     let (first, second) = (random.pick(ports), random.pick(ports));
-    if picture.depth(first) >= picture.depth(second) { first } else { second }
+    if picture.depth(first) >= picture.depth(second) {
+        first
+    } else {
+        second
+    }
 }
 
-/// The number of a port, seldom one beyond the count.
-fn some_port_number(random: &mut Random, picture: &Picture) -> u32 {
-    match random.percent(3) {
-        true => random.pick(&[picture.ports.len() as u32, 64, 255, 256, u32::MAX]),
-        false => random_port(random, picture) as u32,
+/// The number of a port to ask, seldom one beyond the count, and the port to aim at: mostly the same.
+fn some_port_and_aim<'a>(random: &mut Random, picture: &'a Picture) -> (u32, &'a Port) {
+    let port = random_port(random, picture);
+    if random.percent(3) {
+        let beyond = random.pick(&[picture.ports.len() as u32, 64, 255, 256, u32::MAX]);
+        return (beyond, &picture.ports[port]);
     }
+    let aim = if random.percent(75) { &picture.ports[port] } else { some_aim(random, picture) };
+    (port as u32, aim)
 }
 
 /// A port to aim at, rather a deep one.
@@ -199,28 +212,27 @@ fn some_aim<'a>(random: &mut Random, picture: &'a Picture) -> &'a Port {
     &picture.ports[deepest_of_two(random, picture, &all)]
 }
 
-/// An ID at or around an edge of some port, or something claimed, or any ID; seldom one over FFFFh.
-fn some_id(random: &mut Random, picture: &Picture) -> u64 {
-    let port = some_aim(random, picture);
+/// An ID at or around an edge of the port, or something claimed, or any ID; seldom one over FFFFh.
+fn id_around(random: &mut Random, port: &Port) -> u64 {
+    if random.percent(2) {
+        return random.pick(&LONG_IDS);
+    }
+    let secondary_units = random.pick(&[0, 1, port.num_sec_dev as u64, port.num_sec_dev as u64 + 1]);
     let edge = match random.below(9) {
         0 | 1 => port.own_id as u64,
         2 => (port.secondary as u64) << 8,
         3 => ((port.subordinate as u64) << 8) + 0x100,
-        4 => port.secondary_start as u64 * 8 + random.pick(&[0, 8, port.num_sec_dev as u64 * 8, port.num_sec_dev as u64 * 8 + 8]),
+        4 => (port.secondary_start as u64 + secondary_units) * 8,
         5 | 6 => some_vector_edge(random, port.rid.as_ref()),
         7 => (port.secondary as u64) << 8 | random.below(0x400),
         _ => random.bits(),
     };
-    if random.percent(2) {
-        return random.pick(&LONG_IDS);
-    }
     let around = random.pick(&[0, 0, 0, 1, 7, 8, 0xFFFF]);
-    (edge + around) & 0xFFFF
+    edge.wrapping_add(around) & 0xFFFF
 }
 
-/// An address at or around an edge of some port, or something claimed, or any address.
-fn some_address(random: &mut Random, picture: &Picture) -> u64 {
-    let port = some_aim(random, picture);
+/// An address at or around an edge of the port, or something claimed, or an edge of the space.
+fn address_around(random: &mut Random, port: &Port) -> u64 {
     let edge = match random.below(9) {
         0 => port.memory.base,
         1 => port.memory.last,

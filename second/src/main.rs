@@ -15,7 +15,7 @@ const USAGE: &str = "usage:
   second compare EXPECTED ACTUAL BATCH       first differences; status 1 if there are any
   second tally ANSWERS BATCH                 how often each number and end was given
   second picture SEED KIND                   a full sound picture on standard output; KIND is
-                                             flat, nested, chain, high, low or rid";
+                                             flat, nested, chain, high, low, rid or wide";
 
 /// How many differences are shown.
 const DIFFERENCES_SHOWN: usize = 5;
@@ -87,7 +87,11 @@ fn compare_command(expected: &str, actual: &str, batch: &str) -> Result<ExitCode
         println!("expected {}", difference.expected);
         println!("actual   {}", difference.actual);
     }
-    Ok(if found.is_empty() { ExitCode::SUCCESS } else { ExitCode::from(1) })
+    if found.is_empty() {
+        println!("all answers agree");
+        return Ok(ExitCode::SUCCESS);
+    }
+    Ok(ExitCode::from(1))
 }
 
 /// `tally ANSWERS BATCH`

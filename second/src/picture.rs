@@ -346,9 +346,8 @@ fn register_address(register: u16) -> u64 {
 /// Reads a picture: the lowest number from 1 to 10 that applies, or its ports.
 pub fn read(picture: &[u8]) -> Result<Picture, Refusal> {
     let count = read_header(picture)?;
-    let records: Vec<Record> = (0..count)
-        .map(|port| Record { bytes: &picture[16 + 56 * port..16 + 56 * (port + 1)] })
-        .collect();
+    let records: Vec<Record> =
+        (0..count).map(|port| Record { bytes: &picture[16 + 56 * port..16 + 56 * (port + 1)] }).collect();
     judge_family(&records)?;
     judge_chains(&records)?;
     refuse_first(8, &records, |record| record.settings_are_good())?;
@@ -403,9 +402,8 @@ fn stands_well(records: &[Record]) -> bool {
     if kind == Kind::Downstream {
         return parent_is_upstream;
     }
-    let has_sibling = lower
-        .iter()
-        .any(|other| other.kind() != Some(Kind::Root) && other.parent() == port.parent());
+    let has_sibling =
+        lower.iter().any(|other| other.kind() != Some(Kind::Root) && other.parent() == port.parent());
     !parent_is_upstream && !has_sibling
 }
 

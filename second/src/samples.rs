@@ -6,7 +6,7 @@ use crate::random::Random;
 use crate::topology::{grow, Form};
 
 /// The names of the samples, for `picture SEED KIND`.
-pub const SAMPLE_NAMES: [&str; 6] = ["flat", "nested", "chain", "high", "low", "rid"];
+pub const SAMPLE_NAMES: [&str; 7] = ["flat", "nested", "chain", "high", "low", "rid", "wide"];
 
 /// Size code, granularity code and start of each vector that the ports have.
 type Shapes = [Option<VectorShape>; 3];
@@ -27,9 +27,26 @@ pub fn sample(name: &str, seed: u64) -> Option<Draft> {
         "high" => (grow(random, Form::Flat, 64), [shape(0, 5, 0), None, shape(5, 0, 16)]),
         "low" => (grow(random, Form::Flat, 64), [shape(2, 3, 0), shape(4, 0, 0), None]),
         "rid" => (grow(random, Form::Flat, 64), [shape(5, 0, 0), None, None]),
+        "wide" => return Some(windows_side_by_side(random)),
         _ => return None,
     };
     Some(fill_to_the_brim(random, ports, shapes))
+}
+
+/// 58 root ports with High vectors of 8,192 entries side by side, half of the entries set, and 6
+/// more root ports: the most edges of addresses that a sound picture can have, or nearly so.
+fn windows_side_by_side(random: &mut Random) -> Draft {
+    let mut ports = grow(random, Form::Flat, 64);
+    for (port, registers) in ports.iter_mut().enumerate() {
+        registers.own_id = port as u16;
+        if port < 58 {
+            let start = 16 + 8_192 * port as u64;
+            registers.give_vector(Which::High, VectorShape { size_code: 5, granularity_code: 0, start });
+            registers.bytes_mut(Which::High).iter_mut().for_each(|byte| *byte = random.bits() as u8);
+            registers.set_memory_space(true);
+        }
+    }
+    Draft::of(ports)
 }
 
 /// A switch of six downstream ports, each with a switch of eight below it, and two more root ports.

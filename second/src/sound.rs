@@ -287,7 +287,13 @@ impl Filling<'_> {
     }
 
     /// Size, granularity and start of a vector; none if there are no bytes left for it.
-    fn choose_shape(&mut self, port: usize, which: Which, has_children: bool, share: &Pool) -> Option<VectorShape> {
+    fn choose_shape(
+        &mut self,
+        port: usize,
+        which: Which,
+        has_children: bool,
+        share: &Pool,
+    ) -> Option<VectorShape> {
         let shapes = allowed_shapes(which, self.taste.size_code);
         let fair_part = self.bytes_left / 4;
         let fitting: Vec<(u32, u32)> =
@@ -320,7 +326,8 @@ impl Filling<'_> {
         };
         let scattered = self.random.percent(self.taste.scattered);
         let low = pool.within(0, LOW_END).share(self.random, weights, self.taste.low_cell, scattered);
-        let high = pool.within(LOW_END, MEMORY_END).share(self.random, weights, self.taste.high_cell, scattered);
+        let high =
+            pool.within(LOW_END, MEMORY_END).share(self.random, weights, self.taste.high_cell, scattered);
         for (index, &child) in children.iter().enumerate() {
             let share = low[index].union(&high[index]);
             self.claim_memory(child, weights[index] > 1, &share);
@@ -332,7 +339,9 @@ impl Filling<'_> {
         let stretch = self.taste.high_cell * self.random.pick(&[2, 64, 1_024]);
         let middle = self.random.below(MEMORY_END - stretch) / self.taste.high_cell * self.taste.high_cell;
         let mut ranges = vec![(0, LOW_END)];
-        for range in [(LOW_END, LOW_END + stretch), (middle, middle + stretch), (MEMORY_END - stretch, MEMORY_END)] {
+        for range in
+            [(LOW_END, LOW_END + stretch), (middle, middle + stretch), (MEMORY_END - stretch, MEMORY_END)]
+        {
             if self.random.percent(60) {
                 ranges.push(range);
             }

@@ -1,7 +1,12 @@
 //! Pictures on both sides of every edge of numbers 1 to 10: random edits of good bytes, and lists
 //! that go through all codes.
 
-use crate::draft::{Draft, DraftPort, VectorShape, Which, ALL_VECTORS, DOWNSTREAM, NO_PARENT, ROOT, UPSTREAM};
+// Every edit has the same type, also those that do not change the length.
+#![allow(clippy::ptr_arg)]
+
+use crate::draft::{
+    Draft, DraftPort, VectorShape, Which, ALL_VECTORS, DOWNSTREAM, NO_PARENT, ROOT, UPSTREAM,
+};
 use crate::random::Random;
 use crate::sound::allowed_shapes;
 use crate::topology::{grow, Form};
@@ -9,19 +14,27 @@ use crate::topology::{grow, Form};
 /// One random edit of the bytes of a picture.
 type Edit = fn(&mut Random, &mut Vec<u8>);
 
-const EDITS: [Edit; 16] = [
-    edit_length, edit_edition, edit_count, edit_total, edit_offset, edit_records_past_end, edit_kind,
-    edit_parent, edit_supported, edit_size, edit_control, edit_range_bits, edit_ari, edit_start,
-    edit_vectors_start, edit_tail,
+/// The edits around the edge of each number from 1 to 10, but 7.
+const EDITS: [&[Edit]; 9] = [
+    &[edit_length],
+    &[edit_edition],
+    &[edit_count],
+    &[edit_total],
+    &[edit_offset, edit_records_past_end],
+    &[edit_kind, edit_parent, edit_parent],
+    &[edit_supported, edit_size, edit_control, edit_control, edit_range_bits],
+    &[edit_start, edit_start, edit_ari],
+    &[edit_vectors_start, edit_tail],
 ];
 
-/// Edits a picture in one or several ways.
+/// Edits a picture in one way or in several, so that one number hides another.
 pub fn spoil(random: &mut Random, picture: &mut Vec<u8>) {
     for _ in 0..random.pick(&[1, 1, 1, 2, 2, 3, 5]) {
         if picture.len() < 72 {
             return;
         }
-        random.pick(&EDITS)(random, picture);
+        let edits = random.pick(&EDITS);
+        random.pick(edits)(random, picture);
     }
 }
 
@@ -156,12 +169,23 @@ fn edit_ari(random: &mut Random, picture: &mut Vec<u8>) {
     picture[at + 24] ^= 0x20;
 }
 
-/// A low bit of one of the vector starts turned over.
+/// A low bit of the start of an enabled vector turned over, of a coarse one if there is any.
 fn edit_start(random: &mut Random, picture: &mut Vec<u8>) {
-    let record = any_record(random, picture);
-    let (at, low_bit) = random.pick(&[(32, 19), (40, 20), (44, 28), (48, 0)]);
-    let register = get_4(picture, record + at);
-    put_4(picture, record + at, register ^ 1 << (low_bit + random.below(6)).min(31));
+    let mut starts = Vec::new();
+    for record in (16..picture.len() - 55).step_by(56).take(picture[2] as usize) {
+        for (control, start, low_bit) in [(32, 32, 19), (40, 40, 20), (44, 44, 28), (44, 48, 0)] {
+            let enabled = picture[record + control] & 1 == 1;
+            let coarse = picture[record + control] >> 4 > 0;
+            if enabled {
+                starts.extend(vec![(record + start, low_bit); if coarse { 8 } else { 1 }]);
+            }
+        }
+    }
+    if !starts.is_empty() {
+        let (at, low_bit) = random.pick(&starts);
+        let register = get_4(picture, at);
+        put_4(picture, at, register ^ 1 << (low_bit + random.below(4)));
+    }
 }
 
 /// The place where a port's vectors start, off by something.
@@ -328,7 +352,9 @@ fn start_edges() -> Vec<Vec<u8>> {
     for which in ALL_VECTORS {
         for (size_code, granularity_code) in allowed_shapes(which, 5) {
             let granule = 1u64 << granularity_code;
-            for start in [1, granule / 2, granule - 1, granule, granule + 1, granule * 3, granule * 6 + granule / 2] {
+            for start in
+                [1, granule / 2, granule - 1, granule, granule + 1, granule * 3, granule * 6 + granule / 2]
+            {
                 for enabled in [true, false] {
                     let shape = VectorShape { size_code, granularity_code, start };
                     edges.push(one_vector(which, shape, true, enabled));
@@ -348,11 +374,7 @@ fn start_edges() -> Vec<Vec<u8>> {
 
 /// A root, an upstream and a downstream port, one of them with ARI and a RID vector.
 fn ari_on_all_kinds(shape: VectorShape, chosen: usize) -> Vec<u8> {
-    let mut ports = vec![
-        lone_root(),
-        DraftPort::silent(UPSTREAM, 0, 0),
-        DraftPort::silent(DOWNSTREAM, 1, 0),
-    ];
+    let mut ports = vec![lone_root(), DraftPort::silent(UPSTREAM, 0, 0), DraftPort::silent(DOWNSTREAM, 1, 0)];
     ports[chosen].give_vector(Which::Rid, shape);
     ports[chosen].flip_ari();
     Draft::of(ports).bytes()

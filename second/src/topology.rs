@@ -18,8 +18,7 @@ pub enum Form {
     Chains,
 }
 
-pub const ALL_FORMS: [Form; 5] =
-    [Form::Flat, Form::OneSwitch, Form::Tangled, Form::Deep, Form::Chains];
+pub const ALL_FORMS: [Form; 5] = [Form::Flat, Form::OneSwitch, Form::Tangled, Form::Deep, Form::Chains];
 
 /// Ports in the making, with their depths and numbers of children.
 #[derive(Default)]

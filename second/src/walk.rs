@@ -7,11 +7,21 @@ use crate::picture::{Picture, Target};
 #[derive(Clone, Copy, Debug, PartialEq, Eq)]
 pub enum End {
     /// At the device of a device port; with the Function number of a configuration request.
-    Device { port: usize, function: u8 },
-    Function { port: usize },
+    Device {
+        port: usize,
+        function: u8,
+    },
+    Function {
+        port: usize,
+    },
     Host,
-    Unsupported { port: usize },
-    Doubled { first: usize, second: usize },
+    Unsupported {
+        port: usize,
+    },
+    Doubled {
+        first: usize,
+        second: usize,
+    },
 }
 
 /// A finished walk: its end, and the ports crossed in order.

@@ -31,6 +31,19 @@ pub fn wild(random: &mut Random) -> Draft {
     Draft::of(ports)
 }
 
+/// Random memory over what is sound as far as IDs go.
+pub fn make_memory_wild(random: &mut Random, sound: &mut Draft) {
+    let small_world = random.percent(50);
+    for port in &mut sound.ports {
+        set_memory(random, port, small_world);
+        for which in [Which::Low, Which::High] {
+            if port.is_enabled(which) && random.percent(50) {
+                fill_bytes(random, port.bytes_mut(which));
+            }
+        }
+    }
+}
+
 /// Own ID, bus pair, Secondary range and ARI; in a small world within the first buses.
 fn set_ids(random: &mut Random, port: &mut DraftPort, small_world: bool) {
     let buses = if small_world { 6 } else { 256 };
@@ -66,7 +79,13 @@ fn set_memory(random: &mut Random, port: &mut DraftPort, small_world: bool) {
 }
 
 /// A vector of any shape that is allowed, at any start that is allowed, filled in some manner.
-fn set_vector(random: &mut Random, port: &mut DraftPort, which: Which, small_world: bool, most_size_code: u32) {
+fn set_vector(
+    random: &mut Random,
+    port: &mut DraftPort,
+    which: Which,
+    small_world: bool,
+    most_size_code: u32,
+) {
     let (size_code, granularity_code) = random.pick(&allowed_shapes(which, most_size_code));
     let ari = which == Which::Rid && port.kind != UPSTREAM && port.device_control_2 >> 5 & 1 == 1;
     let alignment = if ari { 32 } else { 1 << granularity_code };
@@ -85,7 +104,10 @@ fn set_vector(random: &mut Random, port: &mut DraftPort, which: Which, small_wor
         (true, _) => near,
         (false, _) => random.below(space_end),
     };
-    port.give_vector(which, VectorShape { size_code, granularity_code, start: start / alignment * alignment });
+    port.give_vector(
+        which,
+        VectorShape { size_code, granularity_code, start: start / alignment * alignment },
+    );
     fill_bytes(random, port.bytes_mut(which));
 }
 
