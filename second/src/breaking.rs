@@ -27,8 +27,19 @@ fn changes_for(number: u8) -> &'static [Change] {
             claim_around_4_gib,
             claim_the_top,
         ],
-        13 => &[flip_rid_entry, move_bus_pair, random_own_id, close_bus_pair, disable_vector],
+        13 => &[
+            clear_rid_entry_above,
+            clear_rid_entry_above,
+            flip_rid_entry,
+            move_bus_pair,
+            random_own_id,
+            close_bus_pair,
+            disable_vector,
+        ],
         14 => &[
+            clear_memory_entry_above,
+            clear_memory_entry_above,
+            clear_memory_entry_above,
             flip_memory_entry,
             move_memory,
             move_prefetchable,
@@ -185,6 +196,31 @@ fn flip_rid_entry(random: &mut Random, _: &Picture, draft: &mut Draft) {
 /// An entry of a Low or High vector is turned over.
 fn flip_memory_entry(random: &mut Random, _: &Picture, draft: &mut Draft) {
     flip_an_entry(random, draft, &[Which::Low, Which::High]);
+}
+
+/// A set entry of a port with children is cleared, in one of its enabled vectors among these.
+fn clear_an_entry_above(random: &mut Random, picture: &Picture, draft: &mut Draft, among: &[Which]) {
+    let registers = &mut draft.ports[any_parent(random, picture)];
+    let mut set_entries = Vec::new();
+    for &which in among.iter().filter(|&&which| registers.is_enabled(which)) {
+        let bytes = registers.bytes(which);
+        let is_set = |entry: &u64| bytes[(entry / 8) as usize] >> (entry % 8) & 1 == 1;
+        set_entries.extend((0..bytes.len() as u64 * 8).filter(is_set).map(|entry| (which, entry)));
+    }
+    if !set_entries.is_empty() {
+        let (which, entry) = random.pick(&set_entries);
+        registers.flip_entry(which, entry);
+    }
+}
+
+/// A set RID entry of a port with children is cleared.
+fn clear_rid_entry_above(random: &mut Random, picture: &Picture, draft: &mut Draft) {
+    clear_an_entry_above(random, picture, draft, &[Which::Rid]);
+}
+
+/// A set Low or High entry of a port with children is cleared.
+fn clear_memory_entry_above(random: &mut Random, picture: &Picture, draft: &mut Draft) {
+    clear_an_entry_above(random, picture, draft, &[Which::Low, Which::High]);
 }
 
 /// A vector starts one of its granules earlier or later.

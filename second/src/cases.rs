@@ -142,6 +142,25 @@ pub fn one_port_picture() -> Vec<u8> {
     picture
 }
 
+/// Two root ports whose vectors of 256 entries are all set, so that set bits follow each vector.
+fn two_full_ports() -> Vec<DraftPort> {
+    let full = |own_id| {
+        root(own_id)
+            .vector(Rid, shape(0, 0, 0), &all_256())
+            .vector(Low, shape(0, 0, 0), &all_256())
+            .vector(High, shape(0, 0, 16), &all_256())
+            .with_memory_space(true)
+    };
+    vec![full(0xFFFF), full(0xFFFE)]
+}
+
+/// A root port and an upstream port below it that is good as far as IDs go.
+fn parent_and_child(parent: DraftPort, child: DraftPort) -> Vec<DraftPort> {
+    let above = DraftPort { kind: ROOT, parent: NO_PARENT, own_id: 8, ..parent.buses(1, 1) };
+    let below = DraftPort { kind: UPSTREAM, parent: 0, own_id: 0x0100, ..child };
+    vec![above, below]
+}
+
 /// The examples of the paper itself.
 fn paper_cases() -> Vec<Case> {
     let rid = |start, granularity, entries: &[u64]| {
@@ -165,6 +184,18 @@ fn paper_cases() -> Vec<Case> {
         ),
         case("C1", rid(0, 0, &[255]), vec![claims_id(0, 2_047, true), claims_id(0, 2_039, false)]),
         case("C2", rid(0, 0, &all_256()), vec![claims_id(0, 2_047, true), claims_id(0, 2_048, false)]),
+        case(
+            "C2: set bits after each vector",
+            two_full_ports(),
+            vec![
+                claims_id(0, 2_047, true),
+                claims_id(0, 2_048, false),
+                claims_address(0, 0x0FFF_FFFF, true),
+                claims_address(0, 0x1000_0000, false),
+                claims_address(0, 0x10_FFFF_FFFF, true),
+                claims_address(0, 0x11_0000_0000, false),
+            ],
+        ),
         case("C3", rid(32, 3, &all_256()), vec![claims_id(0, 255, false), claims_id(0, 256, true)]),
         case("C4: entry 0", rid(32, 3, &[0]), vec![claims_id(0, 319, true), claims_id(0, 320, false)]),
         case("C4: entry 1", rid(32, 3, &[1]), vec![claims_id(0, 319, false), claims_id(0, 320, true)]),
@@ -729,6 +760,43 @@ fn first_build_cases() -> Vec<Case> {
             "first build: number 15 by itself",
             vec![root(0x0008).buses(1, 5), up(0, 0x0100).buses(2, 5), down(1, 0x0300)],
             vec![reports("refused 15 ports 2"), checks(15, 2, 255, None)],
+        ),
+        case(
+            "first build: the end of a granule above",
+            parent_and_child(
+                root(0).vector(Low, shape(0, 0, 0), &[0, 1, 2, 3]).with_memory_space(true),
+                root(0).memory(0, 7),
+            ),
+            vec![reports("refused 14 addr 0000000000400000 ports 1")],
+        ),
+        case(
+            "first build: the end of a High granule above",
+            parent_and_child(high(0, 1, 16, &[0, 1, 3]), root(0).prefetchable(0x1000, 0x1FFF)),
+            vec![reports("refused 14 addr 0000000140000000 ports 1")],
+        ),
+        case(
+            "first build: the end of a range above",
+            parent_and_child(
+                root(0).memory(0, 2).prefetchable_type_0(3, 4),
+                root(0).vector(Low, shape(0, 4, 0), &[0]).with_memory_space(true),
+            ),
+            vec![reports("refused 14 addr 0000000000500000 ports 1")],
+        ),
+        case(
+            "first build: the end of a RID granule above",
+            vec![
+                root(8).vector(Rid, shape(0, 3, 0), &[4, 5, 6]).secondary_range(32, 0),
+                up(0, 0x0100).buses(1, 1),
+            ],
+            vec![reports("refused 11 id 0100 ports 1 1")],
+        ),
+        case(
+            "first build: an escape behind the end of a RID granule",
+            vec![
+                root(8).vector(Rid, shape(0, 3, 0), &[8, 4, 5, 6]).secondary_range(64, 0),
+                up(0, 0x0200).buses(1, 1),
+            ],
+            vec![reports("refused 13 id 01c0 ports 1")],
         ),
         case(
             "first build: a completion for a downstream port",

@@ -7,12 +7,13 @@ use crate::draft::Draft;
 use crate::judge::Judge;
 use crate::picture::{Picture, Port, Refusal, Target, Vector, FOUR_GIB};
 use crate::random::Random;
+use crate::samples::{sample, SAMPLE_NAMES};
 use crate::sound::{fill, Taste};
 use crate::spoil::{chain_at_the_edge, reading_edges, spoil};
 use crate::topology::{grow, port_count, ALL_FORMS};
 use crate::wild::{add_noise, make_memory_wild, wild};
 
-/// Numbers that are no start anywhere, whatever they are cut to.
+/// Numbers that are no start anywhere; some would be one if they were cut to 8 or 16 bits.
 const BAD_STARTS: [u32; 8] = [64, 254, 256, 300, 511, 0xFF00, 0x1_0000, u32::MAX];
 
 /// Packet kinds that there are not.
@@ -52,10 +53,14 @@ pub fn hand_written() -> Vec<u8> {
     batch
 }
 
-/// A picture of one of the families: spoiled, wild, sound, broken once, wild in memory, or shaken.
+/// A picture of one of the families: spoiled, wild, sound, broken once, wild in memory, or shaken;
+/// seldom a chain at the edge, or a full picture.
 fn random_picture(random: &mut Random) -> Vec<u8> {
     if random.percent(2) {
         return chain_at_the_edge(random);
+    }
+    if random.percent(1) {
+        return full_picture(random);
     }
     let family = random.below(20);
     let mut draft = if family < 5 { wild(random) } else { sound_draft(random) };
@@ -76,6 +81,16 @@ fn random_picture(random: &mut Random) -> Vec<u8> {
         spoil(random, &mut picture);
     }
     picture
+}
+
+/// One of the full pictures, in half of the cases broken once.
+fn full_picture(random: &mut Random) -> Vec<u8> {
+    let name = random.pick(&SAMPLE_NAMES);
+    let full = sample(name, random.bits()).expect("every name has a sample");
+    match random.percent(50) {
+        true => full.bytes(),
+        false => break_once(random, &full).bytes(),
+    }
 }
 
 /// A random sound picture.

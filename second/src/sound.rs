@@ -20,7 +20,7 @@ pub struct Taste {
     pub low_vector: u64,
     pub high_vector: u64,
     pub ari: u64,
-    /// A set entry out of a hundred that may be set, at ports without children.
+    /// Chance that an entry is set where it may be, at ports without children.
     pub density: u64,
     /// The largest size code used.
     pub size_code: u32,

@@ -52,7 +52,10 @@ fn set_ids(random: &mut Random, port: &mut DraftPort, small_world: bool) {
         port.secondary = random.below(buses) as u8;
         port.subordinate = port.secondary.saturating_add(random.pick(&[0, 0, 1, 3, 200]));
     }
-    let start = random.below(buses) * 32 + random.pick(&[0, 0, 1, 31]);
+    let start = match random.percent(10) {
+        true => random.between(8_160, 8_191),
+        false => random.below(buses) * 32 + random.pick(&[0, 0, 1, 31]),
+    };
     *port = port.clone().secondary_range(start as u16, random.pick(&[0, 1, 31]));
     if random.percent(40) {
         *port = port.clone().with_ari();
