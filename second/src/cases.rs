@@ -783,14 +783,6 @@ fn first_build_cases() -> Vec<Case> {
             vec![reports("refused 14 addr 0000000000500000 ports 1")],
         ),
         case(
-            "first build: the end of a RID granule above",
-            vec![
-                root(8).vector(Rid, shape(0, 3, 0), &[4, 5, 6]).secondary_range(32, 0),
-                up(0, 0x0100).buses(1, 1),
-            ],
-            vec![reports("refused 11 id 0100 ports 1 1")],
-        ),
-        case(
             "first build: an escape behind the end of a RID granule",
             vec![
                 root(8).vector(Rid, shape(0, 3, 0), &[8, 4, 5, 6]).secondary_range(64, 0),

@@ -12,19 +12,23 @@ const RID_2_RESERVED: u32 = 0xFFFF_0007;
 const LOW_RESERVED: u32 = 0x000F_FF0E;
 const HIGH_1_RESERVED: u32 = 0x0FFF_FF0E;
 
+/// How many buses the ports of a picture crowd into; the fewer, the more they overlap.
+const WORLDS: [u64; 5] = [1, 2, 6, 6, WHOLE_WORLD];
+const WHOLE_WORLD: u64 = 256;
+
 /// A random picture that reads.
 pub fn wild(random: &mut Random) -> Draft {
     let form = random.pick(&ALL_FORMS);
     let count = port_count(random);
     let mut ports = grow(random, form, count);
-    let small_world = random.percent(70);
+    let world = random.pick(&WORLDS);
     let most_size_code = if count > 16 { 1 } else { random.pick(&[0, 0, 2, 5]) };
     for port in &mut ports {
-        set_ids(random, port, small_world);
-        set_memory(random, port, small_world);
+        set_ids(random, port, world);
+        set_memory(random, port, world);
         for which in ALL_VECTORS {
             if random.percent(40) {
-                set_vector(random, port, which, small_world, most_size_code);
+                set_vector(random, port, which, world, most_size_code);
             }
         }
     }
@@ -33,9 +37,9 @@ pub fn wild(random: &mut Random) -> Draft {
 
 /// Random memory over what is sound as far as IDs go.
 pub fn make_memory_wild(random: &mut Random, sound: &mut Draft) {
-    let small_world = random.percent(50);
+    let world = random.pick(&WORLDS);
     for port in &mut sound.ports {
-        set_memory(random, port, small_world);
+        set_memory(random, port, world);
         for which in [Which::Low, Which::High] {
             if port.is_enabled(which) && random.percent(50) {
                 fill_bytes(random, port.bytes_mut(which));
@@ -44,9 +48,8 @@ pub fn make_memory_wild(random: &mut Random, sound: &mut Draft) {
     }
 }
 
-/// Own ID, bus pair, Secondary range and ARI; in a small world within the first buses.
-fn set_ids(random: &mut Random, port: &mut DraftPort, small_world: bool) {
-    let buses = if small_world { 6 } else { 256 };
+/// Own ID, bus pair, Secondary range and ARI, within so many buses.
+fn set_ids(random: &mut Random, port: &mut DraftPort, buses: u64) {
     port.own_id = (random.below(buses) << 8) as u16 | random.pick(&[0, 0, 8, 0xF8, 0x13]);
     if random.percent(60) {
         port.secondary = random.below(buses) as u8;
@@ -62,9 +65,9 @@ fn set_ids(random: &mut Random, port: &mut DraftPort, small_world: bool) {
     }
 }
 
-/// Memory and Prefetchable ranges; in a small world in the first MiB and around 4 GiB.
-fn set_memory(random: &mut Random, port: &mut DraftPort, small_world: bool) {
-    let low = if small_world { 24 } else { 4_096 };
+/// Memory and Prefetchable ranges, within so many times 16 MiB; in a small world around 4 GiB too.
+fn set_memory(random: &mut Random, port: &mut DraftPort, world: u64) {
+    let low = world * 16;
     if random.percent(50) {
         let base = random.below(low);
         let limit = (base + random.pick(&[0, 0, 1, 7])).min(4_095);
@@ -74,7 +77,7 @@ fn set_memory(random: &mut Random, port: &mut DraftPort, small_world: bool) {
         let base = random.below(low) as u16;
         *port = port.clone().prefetchable_type_0(base, (base + random.below(3) as u16).min(4_095));
     } else if random.percent(50) {
-        let base = if small_world { 4_080 + random.below(32) } else { random.below(1 << 44) };
+        let base = if world < WHOLE_WORLD { 4_080 + random.below(32) } else { random.below(1 << 44) };
         let limit = (base + random.pick(&[0, 1, 15, 4_096])).min((1 << 44) - 1);
         *port = port.clone().prefetchable(base, limit);
     }
@@ -82,13 +85,7 @@ fn set_memory(random: &mut Random, port: &mut DraftPort, small_world: bool) {
 }
 
 /// A vector of any shape that is allowed, at any start that is allowed, filled in some manner.
-fn set_vector(
-    random: &mut Random,
-    port: &mut DraftPort,
-    which: Which,
-    small_world: bool,
-    most_size_code: u32,
-) {
+fn set_vector(random: &mut Random, port: &mut DraftPort, which: Which, world: u64, most_size_code: u32) {
     let (size_code, granularity_code) = random.pick(&allowed_shapes(which, most_size_code));
     let ari = which == Which::Rid && port.kind != UPSTREAM && port.device_control_2 >> 5 & 1 == 1;
     let alignment = if ari { 32 } else { 1 << granularity_code };
@@ -102,7 +99,7 @@ fn set_vector(
         Which::Low => random.below(24),
         Which::High => random.below(32),
     };
-    let start = match (small_world, random.percent(10)) {
+    let start = match (world < WHOLE_WORLD, random.percent(10)) {
         (_, true) => space_end - random.between(1, 40),
         (true, _) => near,
         (false, _) => random.below(space_end),
