@@ -14,17 +14,24 @@ use crate::topology::{grow, Form};
 /// One random edit of the bytes of a picture.
 type Edit = fn(&mut Random, &mut Vec<u8>);
 
-/// The edits around the edge of each number from 1 to 10, but 7.
-const EDITS: [&[Edit]; 9] = [
-    &[edit_length],
-    &[edit_edition],
-    &[edit_count],
-    &[edit_total],
-    &[edit_offset, edit_records_past_end],
-    &[edit_kind, edit_parent, edit_parent],
-    &[edit_supported, edit_size, edit_control, edit_control, edit_range_bits],
-    &[edit_start, edit_start, edit_ari],
-    &[edit_vectors_start, edit_tail],
+/// The edits around the edges of numbers 1 to 5.
+const HEADER_EDITS: [Edit; 6] =
+    [edit_length, edit_edition, edit_count, edit_total, edit_offset, edit_records_past_end];
+
+/// The edits around the edges of numbers 6, 8, 9 and 10.
+const RECORD_EDITS: [Edit; 12] = [
+    edit_kind,
+    edit_parent,
+    edit_supported,
+    edit_size,
+    edit_control,
+    edit_control,
+    edit_range_bits,
+    edit_ari,
+    edit_start,
+    edit_start,
+    edit_vectors_start,
+    edit_tail,
 ];
 
 /// Edits a picture in one way or in several, so that one number hides another.
@@ -33,7 +40,7 @@ pub fn spoil(random: &mut Random, picture: &mut Vec<u8>) {
         if picture.len() < 72 {
             return;
         }
-        let edits = random.pick(&EDITS);
+        let edits: &[Edit] = if random.percent(30) { &HEADER_EDITS } else { &RECORD_EDITS };
         random.pick(edits)(random, picture);
     }
 }
