@@ -11,54 +11,10 @@ use Rattle.chassis.specs.declared.Conversion.{Conversion}
 use Rattle.chassis.specs.declared.Conversion.the-variants.{NotClaimed, Type0, Type1, Unsupported}
 use Rattle.chassis.specs.Chassis.{Chassis, isOwn, holds}
 use Rattle.chassis.specs.Check.{clash, clashesWith, shared, straysAt, stray, isType0, ownIdLost}
+use Rattle.chassis.specs.Findings.{HeldByTwo, OwnClaimed, Clash, between-two, with-itself, Clashing, Astray, SomeAstray, ownTarget, OwnIdLost}
 use Rattle.chassis.specs.Tree.{rootPort, standsAt}
 use Rattle.chassis.proofs.Bools.{never-both-values, and-true-parts}
 use Rattle.chassis.proofs.Ports.{anyBelow-true, anyBelow-at}
-
--- "held by two ports at one place"
-pub record HeldByTwo (c : Chassis) (t : Target) (p q : ℕ) : Type 0 where
-  pub distinct : p ≡ q → ⊥
-  pub one-place : c .tree .parent p ≡ c .tree .parent q
-  pub first-holds : holds c t p ≡ true
-  pub second-holds : holds c t q ≡ true
-
--- "an ID claimed by the port whose own it is"
-pub record OwnClaimed (c : Chassis) (t : Target) (p : ℕ) : Type 0 where
-  pub own : isOwn c t p ≡ true
-  pub claimed : c .claims p t ≡ true
-
--- two ports clash: "a port with itself tried too"
-pub data Clash (c : Chassis) (t : Target) (p q : ℕ) : Type 0 where
-  between-two : HeldByTwo c t p q → Clash c t p q
-  with-itself : p ≡ q → OwnClaimed c t p → Clash c t p q
-
--- a pair of ports that clash
-pub record Clashing (c : Chassis) (t : Target) : Type 0 where
-  pub first : ℕ
-  pub second : ℕ
-  pub first-below : first < c .tree .count
-  pub second-below : second < c .tree .count
-  pub clashing : Clash c t first second
-
--- "held by a port that is no root port, not claimed by its parent"
-pub record Astray (c : Chassis) (t : Target) (p : ℕ) : Type 0 where
-  pub no-root-port : c .tree .kind p ≡ rootPort → ⊥
-  pub held : holds c t p ≡ true
-  pub unclaimed : c .claims (c .tree .parent p) t ≡ false
-
-pub record SomeAstray (c : Chassis) (t : Target) : Type 0 where
-  pub port : ℕ
-  pub below : port < c .tree .count
-  pub astray : Astray c t port
-
-abbrev pub ownTarget : Chassis → ℕ → Target
-ownTarget c p = Id (record { 0 = c .ownId p })
-
--- "the own ID of a port of kind 1 or 2 is not both claimed by its parent and Type 0 there"
-pub record OwnIdLost (c : Chassis) (p : ℕ) : Type 0 where
-  pub no-root-port : c .tree .kind p ≡ rootPort → ⊥
-  pub not-both : c .claims (c .tree .parent p) (ownTarget c p) ≡ true
-      → c .conversion (c .tree .parent p) (ownTarget c p) ≡ Type0 → ⊥
 
 module _ (c : Chassis) (t : Target) where
   clash-told : (p q : ℕ) → clash c t p q ≡ true → Clash c t p q

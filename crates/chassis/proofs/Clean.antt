@@ -12,7 +12,8 @@ use Rattle.chassis.specs.Check.{shared, stray}
 use Rattle.chassis.specs.Tree.{rootPort}
 use Rattle.chassis.proofs.Bools.{never-both-values}
 use Rattle.chassis.proofs.Ports.{passesAt-true, lowestAt-is}
-use Rattle.chassis.proofs.CheckLaws.{Clash, between-two, with-itself, shared-true, stray-true}
+use Rattle.chassis.specs.Findings.{Clash, between-two, with-itself}
+use Rattle.chassis.proofs.CheckLaws.{shared-true, stray-true}
 
 pub record Clean (c : Chassis) (t : Target) : Type 0 where
   pub unshared : shared c t ≡ false

@@ -18,42 +18,13 @@ use Rattle.chassis.specs.declared.Whereabouts.the-variants.{Root, Into, 
 use Rattle.chassis.specs.Chassis.{Chassis, holds, lowestAt}
 use Rattle.chassis.specs.Tree.{root, isDevicePort}
 use Rattle.chassis.specs.Walk.{Walk}
-use Rattle.chassis.proofs.Sound.{InRange, Sound}
+use Rattle.chassis.specs.OneEnd.{InRange, NoTwoHolders, Comes, OneEnd, placeOf}
+use Rattle.chassis.proofs.Sound.{Sound}
 use Rattle.chassis.proofs.Tree.{Sane}
 use Rattle.chassis.proofs.Steps.{left-most, Within}
 use Rattle.chassis.proofs.Walks.{walk-one, walk-exists, walk-short}
-use Rattle.chassis.proofs.Ways.{Came}
 use Rattle.chassis.proofs.Clean.{Clean, never-two}
 use Rattle.chassis.proofs.Homeward.{same-end, own-device-refused, device-port-below}
-
--- the place where a packet is
-abbrev pub placeOf : Whereabouts → ℕ
-placeOf Root = root
-placeOf (Into q) = q .0
-placeOf (From q) = q .0
-placeOf (Type0 q) = q .0
-placeOf (Type1 q) = q .0
-
--- no place on the way from w has two holders
-abbrev pub NoTwoHolders : Chassis → Target → Whereabouts → Type 0
-NoTwoHolders c t w =
-    (path : List PortNo) (v : Whereabouts) → Came c (Plain t) w path v
-    → (p q : PortNo) → lowestAt c (placeOf v) (holds c t) ≡ Both p q → ⊥
-
--- the packet comes from w to the end, in at most 32 crossings, and no place on the way has two holders
-pub record Comes (c : Chassis) (t : Target) (w : Whereabouts) (e : End) : Type 0 where
-  pub path : List PortNo
-  pub walk : Walk c (Plain t) w path e
-  pub short : length path ≤ 32
-  pub no-two-holders : NoTwoHolders c t w
-
--- the whole demand for one target
-pub record OneEnd (c : Chassis) (t : Target) : Type 0 where
-  pub end : End
-  pub from-host : Comes c t Root end
-  pub from-device : (d : PortNo) → isDevicePort (c .tree) (d .0) ≡ true → c .claims (d .0) t ≡ false → Comes c t (From d) end
-  pub own-device : (d : PortNo) → isDevicePort (c .tree) (d .0) ≡ true → c .claims (d .0) t ≡ true
-      → Walk c (Plain t) (From d) [] (Unsupported d) × NoTwoHolders c t (From d)
 
 module _ (c : Chassis) (t : Target) (sane : Sane (c .tree)) (clean : Clean c t) where
   no-two : (w : Whereabouts) → NoTwoHolders c t w

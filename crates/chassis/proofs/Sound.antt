@@ -9,14 +9,10 @@ use Rattle.ids.specs.declared.Space.the-variants.{Ids, Addresses}
 use Rattle.least.specs.declared.Found.the-variants.{Nothing}
 use Rattle.chassis.specs.Chassis.{Chassis}
 use Rattle.chassis.specs.Check.{shared, stray, leastTarget}
+use Rattle.chassis.specs.OneEnd.{InRange}
 use Rattle.chassis.proofs.Clean.{Clean}
 use Rattle.chassis.proofs.LeastTarget.{leastTarget-is}
 use Rattle.chassis.proofs.Tree.{Sane}
-
--- the targets that there are: all 65,536 IDs and all 2^64 addresses
-abbrev pub InRange : Target → Type 0
-InRange (Id rid) = rid .0 < 2 ^ 16
-InRange (Addr a) = a < 2 ^ 64
 
 -- the tree keeps its rules, and no target is shared or astray
 pub record Sound (c : Chassis) : Type 0 where

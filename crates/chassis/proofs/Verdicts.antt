@@ -17,17 +17,12 @@ use Rattle.chassis.specs.declared.Verdict.{Verdict}
 use Rattle.chassis.specs.declared.Verdict.the-variants.{Clear, Shared, Stray, Lost}
 use Rattle.chassis.specs.Chassis.{Chassis, targetIn}
 use Rattle.chassis.specs.Check.{clash, clashesWith, shared, straysAt, stray, ownIdLost, leastTarget, found, lowestPort, firstOfPair, secondOfPair, sharedElse, strayElse, lostElse, verdictOf}
+use Rattle.chassis.specs.Findings.{SomeBelow, Lowest, Earlier, LeastWith, NoneWith, SomeWith, IsShared, IsStray, IsLost, SaysClear, SaysShared, SaysStray, SaysLost, Says}
 use Rattle.chassis.specs.Tree.{anyBelow}
 use Rattle.chassis.proofs.Bools.{never-both-values}
 use Rattle.chassis.proofs.LeastTarget.{leastTarget-is}
-use Rattle.chassis.proofs.Ports.{SomeBelow, anyBelow-true}
-use Rattle.chassis.proofs.Sound.{InRange, none-found}
-
--- the lowest of n ports that passes a test
-pub record Lowest (test : ℕ → Bool) (n : ℕ) (p : PortNo) : Type 0 where
-  pub below : p .0 < n
-  pub passes : test (p .0) ≡ true
-  pub first : (q : ℕ) → q < p .0 → test q ≡ false
+use Rattle.chassis.proofs.Ports.{anyBelow-true}
+use Rattle.chassis.proofs.Sound.{none-found}
 
 -- where some port passes, the lowest does
 lowest-found : (c : Chassis) (test : ℕ → Bool) → anyBelow test (c .tree .count) ≡ true → Lowest test (c .tree .count) (lowestPort c test)
@@ -38,74 +33,6 @@ lowest-found c test some = go (firstIn test 0 (c .tree .count)) (of-range test 0
     go Nothing none =
         let one = anyBelow-true test (c .tree .count) .0 some in
         never-both-values _ (one .passes) (none .none (one .number) zero-le (one .below))
-
--- IDs come before addresses, and each by its number
-abbrev pub Earlier : Target → Target → Type 0
-Earlier (Id m) (Id n) = m .0 < n .0
-Earlier (Id m) (Addr a) = m .0 < 2 ^ 16
-Earlier (Addr b) (Id n) = ⊥
-Earlier (Addr b) (Addr a) = b < a
-
--- the least target with a property, all IDs before all addresses
-pub record LeastWith (test : Target → Bool) (t : Target) : Type 0 where
-  pub in-range : InRange t
-  pub passes : test t ≡ true
-  pub first : (u : Target) → Earlier u t → test u ≡ false
-
-abbrev pub NoneWith : (Target → Bool) → Type 0
-NoneWith test = (t : Target) → InRange t → test t ≡ false
-
--- some target of either space passes
-pub record SomeWith (test : Target → Bool) : Type 0 where
-  pub target : Target
-  pub in-range : InRange target
-  pub passes : test target ≡ true
-
--- which rows of the table a verdict is: 11 or 12, 13 or 14, 15
-abbrev pub IsShared : Verdict → Type 0
-IsShared (Shared t p q) = Unit {0}
-IsShared Clear = ⊥
-IsShared (Stray t p) = ⊥
-IsShared (Lost p) = ⊥
-
-abbrev pub IsStray : Verdict → Type 0
-IsStray (Stray t p) = Unit {0}
-IsStray Clear = ⊥
-IsStray (Shared t p q) = ⊥
-IsStray (Lost p) = ⊥
-
-abbrev pub IsLost : Verdict → Type 0
-IsLost (Lost p) = Unit {0}
-IsLost Clear = ⊥
-IsLost (Shared t p q) = ⊥
-IsLost (Stray t p) = ⊥
-
--- what a verdict says of a chassis
-pub record SaysClear (c : Chassis) : Type 0 where
-  pub unshared : NoneWith (shared c)
-  pub unstrayed : NoneWith (stray c)
-  pub kept : (p : ℕ) → p < c .tree .count → ownIdLost c p ≡ false
-
-pub record SaysShared (c : Chassis) (t : Target) (p q : PortNo) : Type 0 where
-  pub least : LeastWith (shared c) t
-  pub first : Lowest (clashesWith c t) (c .tree .count) p
-  pub second : Lowest (clash c t (p .0)) (c .tree .count) q
-
-pub record SaysStray (c : Chassis) (t : Target) (p : PortNo) : Type 0 where
-  pub unshared : NoneWith (shared c)
-  pub least : LeastWith (stray c) t
-  pub port : Lowest (straysAt c t) (c .tree .count) p
-
-pub record SaysLost (c : Chassis) (p : PortNo) : Type 0 where
-  pub unshared : NoneWith (shared c)
-  pub unstrayed : NoneWith (stray c)
-  pub port : Lowest (ownIdLost c) (c .tree .count) p
-
-abbrev pub Says : Chassis → Verdict → Type 0
-Says c Clear = SaysClear c
-Says c (Shared t p q) = SaysShared c t p q
-Says c (Stray t p) = SaysStray c t p
-Says c (Lost p) = SaysLost c p
 
 -- the least of a space is the least of all where the space is that of IDs, or no ID passes
 least-id : (test : Target → Bool) (n : ℕ) → leastTarget test Ids ≡ At n → LeastWith test (targetIn Ids n)

@@ -10,15 +10,10 @@ use Rattle.chassis.specs.declared.Packet.{Packet}
 use Rattle.chassis.specs.declared.Step.the-variants.{Stop, Cross}
 use Rattle.chassis.specs.declared.Whereabouts.{Whereabouts}
 use Rattle.chassis.specs.Chassis.{Chassis}
+use Rattle.chassis.specs.OneEnd.{Came, starts, crosses}
 use Rattle.chassis.specs.Walk.{next, Walk, ends, goes}
 use Rattle.chassis.proofs.Tree.{Sane}
 use Rattle.chassis.proofs.Steps.{left, left-most, Within, crossing-goes}
-
--- `Came c packet w path v`: a packet that started at w has crossed the ports of the path, in order, and is now at v
-pub data Came (c : Chassis) (packet : Packet) (w : Whereabouts) : List PortNo → Whereabouts → Type 0 where
-  starts : Came c packet w [] w
-  crosses : {v u : Whereabouts} {p : PortNo} {path : List PortNo} → Came c packet w path v → next c packet v ≡ Cross p u
-      → Came c packet w (path ++ (p ∷ [])) u
 
 -- the way behind and the walk ahead are one walk
 pub came-then : {c : Chassis} {packet : Packet} {w v : Whereabouts} {path rest : List PortNo} {e : End} → Came c packet w path v

@@ -2,3 +2,5 @@ pub mod Tree
 pub mod Chassis
 pub mod Walk
 pub mod Check
+pub mod OneEnd
+pub mod Findings

@@ -10,7 +10,8 @@ use Rattle.least.specs.Least.{firstIn}
 use Rattle.least.proofs.Laws.{NoneIn, at-is}
 use Rattle.chassis.specs.Chassis.{Chassis, portNo}
 use Rattle.chassis.specs.Check.{clash, clashesWith, shared}
-use Rattle.chassis.proofs.Ports.{SomeBelow, anyBelow-true, anyBelow-false}
+use Rattle.chassis.specs.Findings.{SomeBelow}
+use Rattle.chassis.proofs.Ports.{anyBelow-true, anyBelow-false}
 use Rattle.culprits.specs.Culprits.{pairAt}
 
 module _ (c : Chassis) (t : Target) {p : ℕ} (passed : NoneIn (clashesWith c t) 0 p) where

@@ -13,7 +13,8 @@ use Rattle.chassis.specs.Chassis.{Chassis}
 use Rattle.chassis.specs.Walk.{next}
 use Rattle.chassis.proofs.Steps.{left, Within, crossing-goes}
 use Rattle.chassis.proofs.Tree.{Sane}
-use Rattle.chassis.proofs.Ways.{Came, starts, crosses, came-ends, came-within, came-room}
+use Rattle.chassis.specs.OneEnd.{Came, starts, crosses}
+use Rattle.chassis.proofs.Ways.{came-ends, came-within, came-room}
 use Rattle.paths.specs.declared.Path.{Path}
 use Rattle.paths.specs.Paths.{pathOf, extended}
 use Rattle.paths.proofs.Laws.{extended-is}
