@@ -11,3 +11,4 @@ pub mod Ways
 pub mod Sound
 pub mod Homeward
 pub mod Demand3
+pub mod Verdicts

@@ -6,17 +6,17 @@ use borrow.Author.Tests.{ne-eqb}
 use Rattle.chassis.specs.declared.Whereabouts.the-variants.{Root, From}
 use Rattle.chassis.specs.Chassis.{Chassis, portNo}
 use Rattle.chassis.specs.Tree.{root}
-use Rattle.chassis.specs.Walk.{startsAt}
+use Rattle.chassis.specs.Walk.{comeTo}
 use Rattle.chassis.proofs.Steps.{Within}
 use Rattle.chassis.proofs.Tree.{Sane}
 
-pub startsAt-root : startsAt root ≡ Root
-unfolding startsAt
-startsAt-root = refl
+pub comeTo-root : comeTo root ≡ Root
+unfolding comeTo
+comeTo-root = refl
 
-pub startsAt-port : (c : Chassis) → Sane (c .tree) → (p : ℕ) → p < c .tree .count → startsAt p ≡ From (portNo p)
-unfolding startsAt
-startsAt-port c sane p l = rw (ne-eqb p root (λ e. omega (arith, sane .few)))
+pub comeTo-port : (c : Chassis) → Sane (c .tree) → (p : ℕ) → p < c .tree .count → comeTo p ≡ From (portNo p)
+unfolding comeTo
+comeTo-port c sane p l = rw (ne-eqb p root (λ e. omega (arith, sane .few)))
 
-pub startsAt-within : (c : Chassis) → Sane (c .tree) → (p : ℕ) → p < c .tree .count → Within c (startsAt p)
-startsAt-within c sane p l = subst (Within c) (sym (startsAt-port c sane p l)) l
+pub comeTo-within : (c : Chassis) → Sane (c .tree) → (p : ℕ) → p < c .tree .count → Within c (comeTo p)
+comeTo-within c sane p l = subst (Within c) (sym (comeTo-port c sane p l)) l

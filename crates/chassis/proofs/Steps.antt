@@ -22,7 +22,7 @@ use Rattle.chassis.specs.declared.Whereabouts.{Whereabouts}
 use Rattle.chassis.specs.declared.Whereabouts.the-variants.{Root, Into, From, Type0, Type1}
 use Rattle.chassis.specs.Chassis.{Chassis, portNo, isOwn, holds, passesAt, lowestAt}
 use Rattle.chassis.specs.Tree.{root, isDevicePort}
-use Rattle.chassis.specs.Walk.{targetOf, decided, decides, downward, byHolders, soleHolder, deviceOr, upTo, upward, fromBelow, underType0, underType1, next}
+use Rattle.chassis.specs.Walk.{targetOf, decided, decides, downward, byHolders, soleHolder, deviceOr, comeTo, upward, fromBelow, underType0, underType1, next}
 use Rattle.chassis.proofs.Ports.{Says, SoleBelow, lowestTwo-says, passesAt-true}
 use Rattle.chassis.proofs.Tree.{Sane, depth, depth-most, depth-parent, parent-lower}
 
@@ -131,9 +131,9 @@ module _ (c : Chassis) (sane : Sane (c .tree)) where
       (λ p s. one p (crossable most place test p room s))
       nobody
 
-  upTo-goes : (q : PortNo) → IsPort c q → Nearer c (16 + depth (c .tree) (q .0)) q (upTo (c .tree .parent (q .0)))
-  unfolding upTo
-  upTo-goes q l = go (eqb (c .tree .parent (q .0)) root) refl
+  comeTo-goes : (q : PortNo) → IsPort c q → Nearer c (16 + depth (c .tree) (q .0)) q (comeTo (c .tree .parent (q .0)))
+  unfolding comeTo
+  comeTo-goes q l = go (eqb (c .tree .parent (q .0)) root) refl
     where
       go : (b : Bool) → eqb (c .tree .parent (q .0)) root ≡ b
           → Nearer c (16 + depth (c .tree) (q .0)) q (cond b Root (From (portNo (c .tree .parent (q .0)))))
@@ -147,9 +147,9 @@ module _ (c : Chassis) (sane : Sane (c .tree)) where
   upward-goes t q l = go (c .claims (q .0) t)
     where
       go : (b : Bool)
-          → Goes c (16 + depth (c .tree) (q .0)) (cond b (Stop (Unsupported q)) (Cross q (upTo (c .tree .parent (q .0)))))
+          → Goes c (16 + depth (c .tree) (q .0)) (cond b (Stop (Unsupported q)) (Cross q (comeTo (c .tree .parent (q .0)))))
       go true = l
-      go false = upTo-goes q l
+      go false = comeTo-goes q l
 
   fromBelow-goes : (packet : Packet) (q : PortNo) → IsPort c q → Goes c (left c (From q)) (fromBelow c packet q)
   unfolding fromBelow

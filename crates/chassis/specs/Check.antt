@@ -3,7 +3,7 @@ use Prim.Native.Nat.{ℕ}
 use mathlib.Core.Bool.{Bool, true, false, not, cond, _&&_}
 use lib.Dec.{eqb}
 use Rattle.ids.specs.declared.Target.{Target}
-use Rattle.ids.specs.declared.Target.the-variants.{Id}
+use Rattle.ids.specs.declared.Target.the-variants.{Id, Addr}
 use Rattle.ids.specs.declared.Space.{Space}
 use Rattle.ids.specs.declared.Space.the-variants.{Ids, Addresses}
 use Rattle.ids.specs.declared.PortNo.{PortNo}
@@ -94,3 +94,14 @@ verdictOf c =
     (strayElse c Addresses (leastTarget (stray c) Addresses)
     (lostElse (firstIn (ownIdLost c) 0 (c .tree .count))
     Clear))))
+
+-- the paper's number of a verdict
+abbrev pub byTarget : Target → ℕ → ℕ → ℕ
+byTarget (Id rid) ofId ofAddress = ofId
+byTarget (Addr a) ofId ofAddress = ofAddress
+
+abbrev pub verdictNumber : Verdict → ℕ
+verdictNumber Clear = 0
+verdictNumber (Shared t p q) = byTarget t 11 12
+verdictNumber (Stray t p) = byTarget t 13 14
+verdictNumber (Lost p) = 15

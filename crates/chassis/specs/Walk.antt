@@ -64,13 +64,14 @@ atPlace c packet place none = byHolders (lowestAt c place (holds c (targetOf pac
 unfoldable pub deviceOr : Chassis → PortNo → ℕ → Step
 deviceOr c q function = cond (isDevicePort (c .tree) (q .0)) (Stop (Device q function)) (Stop (Unsupported q))
 
--- where a packet is that crossed a port upward to this place
-unfoldable pub upTo : ℕ → Whereabouts
-upTo place = cond (eqb place root) Root (From (portNo place))
+-- where a packet is that started at a place, or crossed a port upward to it: "A packet starts at the root (start 255) or below a
+-- device port."
+unfoldable pub comeTo : ℕ → Whereabouts
+comeTo place = cond (eqb place root) Root (From (portNo place))
 
 -- "5. none, started or come from below: if the place's port claims the target, Unsupported Request at it, else cross it upward"
 unfoldable pub upward : Chassis → Target → PortNo → Step
-upward c t q = cond (c .claims (q .0) t) (Stop (Unsupported q)) (Cross q (upTo (c .tree .parent (q .0))))
+upward c t q = cond (c .claims (q .0) t) (Stop (Unsupported q)) (Cross q (comeTo (c .tree .parent (q .0))))
 
 -- started or come from below; "A configuration request from a device port is an Unsupported Request there with no crossing."
 unfoldable pub fromBelow : Chassis → Packet → PortNo → Step
@@ -100,7 +101,3 @@ next c packet (Type1 q) = underType1 c (targetOf packet) q
 pub data Walk (c : Chassis) (packet : Packet) : Whereabouts → List PortNo → End → Type 0 where
   ends : {w : Whereabouts} {e : End} → next c packet w ≡ Stop e → Walk c packet w [] e
   goes : {w v : Whereabouts} {p : PortNo} {path : List PortNo} {e : End} → next c packet w ≡ Cross p v → Walk c packet v path e → Walk c packet w (p ∷ path) e
-
--- "A packet starts at the root (start 255) or below a device port."
-unfoldable pub startsAt : ℕ → Whereabouts
-startsAt start = cond (eqb start root) Root (From (portNo start))

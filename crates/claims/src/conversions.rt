@@ -13,7 +13,7 @@ use registers::enabled;
 use registers::port_at;
 use registers::with_ari;
 ghost use mathlib.Core.Path.{_≡_};
-ghost use Prim.Native.Nat.{_<_};
+ghost use Prim.Native.Nat.{_+_, _<_, _≤_};
 ghost use Rattle.registers.specs.Record.{portAt};
 ghost use Rattle.picture.specs.Layout.{vectorOf};
 ghost use Rattle.claims.specs.Conversion.{secondaryStart, numSecDev, inSecondaryRange, convertedByBus, converted};
@@ -27,12 +27,12 @@ fn secondary_start(f: Fpb) -> Unit
     Unit(((f.rid_control_2 >> 3) % 8192) as u16)
 }
 
-// The last device number of an upstream port's Secondary range, counted from its start.
-fn num_sec_dev(f: Fpb) -> u16
-    ensures { λ r. ⌜ r ≡ numSecDev f ⌝ }
-    ensures { λ r. ⌜ r < 32 ⌝ }
+// How many units an upstream port's Secondary range has: a field of n means n + 1 device numbers.
+fn secondary_units(f: Fpb) -> u16
+    ensures { λ r. ⌜ r ≡ numSecDev f + 1 ⌝ }
+    ensures { λ r. ⌜ r ≤ 32 ⌝ }
 {
-    ((f.capabilities >> 3) % 32) as u16
+    ((f.capabilities >> 3) % 32) as u16 + 1
 }
 
 // Whether an ID is in a port's Secondary range: units of an upstream port, a bus with ARI, else one unit.
@@ -43,7 +43,7 @@ pub fn in_secondary_range(p: Port, rid: Rid) -> bool
     let start = secondary_start(f);
     let unit = rid.unit();
     if p.kind == 1 {
-        return (start.0 <= unit.0) & (unit.0 <= start.0 + num_sec_dev(f));
+        return (start.0 <= unit.0) & (unit.0 < start.0 + secondary_units(f));
     }
     if with_ari(p) {
         return rid.bus() as u16 == start.0 / 32;

@@ -11,7 +11,7 @@ use ids::PortNo;
 use ids::Target;
 ghost use mathlib.Core.Path.{_≡_};
 ghost use Rattle.chassis.specs.Tree.{root};
-ghost use Rattle.chassis.specs.Walk.{targetOf, functionNumber, decided, decides, soleHolder, deviceOr, upTo, next};
+ghost use Rattle.chassis.specs.Walk.{targetOf, functionNumber, decided, decides, soleHolder, deviceOr, comeTo, next};
 ghost use Rattle.chassis.specs.Walk.{downward as Walk·downward, upward as Walk·upward, fromBelow, underType0, underType1, atPlace};
 ghost use Rattle.trees.specs.Trees.{countOf, treeOf};
 ghost use Rattle.claims.specs.Claims.{chassisOf};
@@ -83,8 +83,9 @@ fn device_or(s: &[u8], n: u8, q: PortNo, function: u8) -> Step
     }
 }
 
-fn up_to(place: PortNo) -> Whereabouts
-    ensures { λ r. ⌜ r ≡ upTo (place .0) ⌝ }
+// Where a packet is that crossed a port upward to a place.
+fn come_to(place: PortNo) -> Whereabouts
+    ensures { λ r. ⌜ r ≡ comeTo (place .0) ⌝ }
 {
     if place.0 == 255 {
         Whereabouts::Root
@@ -98,9 +99,10 @@ fn upward(s: &[u8], t: Target, q: PortNo) -> Step
     ensures { λ r. ⌜ r ≡ Walk·upward (chassisOf (now (s .entry))) t q ⌝ }
 {
     if claims::claims(s, q, t) {
-        return Step::Stop(End::Unsupported(q));
+        Step::Stop(End::Unsupported(q))
+    } else {
+        Step::Cross(q, come_to(trees::parent_at(s, q)))
     }
-    Step::Cross(q, up_to(trees::parent_at(s, q)))
 }
 
 // At the root: rules 1 to 3.

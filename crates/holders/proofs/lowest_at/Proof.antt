@@ -1,3 +1,12 @@
+use Rattle.holders.proofs.Laws.{all-tried}
+use Rattle.chassis.specs.Chassis.{passesAt, lowestTwo}
+use Rattle.holders.specs.Holders.{regards}
+use Rattle.claims.specs.Claims.{chassisOf}
+use borrow.Author.Needs.{needs}
+use native.Mathlib.Omega.{arith}
+use native.Mathlib.Numerals.{add-one}
+use mathlib.Core.Path.{_≡_, refl}
+use Prim.Native.Nat.{_≤_, _-_}
 use Rattle.holders.proofs.lowest_at.Statement.{statement}
 use Rattle.holders.proofs.lowest_at.Tie as tie
 use Rattle.holders.proofs.lowest_at.Reads as reads
@@ -6,38 +15,40 @@ use Rattle.holders.proofs.passes.Reads as passes-reads
 use Rattle.holders.proofs.with_port.Reads as with-port-reads
 
 abbrev Inv-loop : tie.InvT-loop
-Inv-loop s n place t regard found₀ p₀ found p = ?
+Inv-loop s n place t regard found₀ p₀ found p = (p ≤ n) × (found ≡ lowestTwo (passesAt (chassisOf s) (place .0) (regards regard (chassisOf s) t)) p)
 
 abbrev μ-loop : tie.MeasureT-loop
-μ-loop s n place t regard found₀ p₀ found p = ?
+μ-loop s n place t regard found₀ p₀ found p = n - p
 
 -- src/holders.rt:54:5
 loop-holds : tie.Need-loop-holds Inv-loop μ-loop
-loop-holds c = ?
+unfolding lowestTwo
+loop-holds c = (search needs, refl)
 
 -- src/holders.rt:55:45
 passes-requires : tie.Need-passes-requires Inv-loop μ-loop
-passes-requires c κs = ?
+passes-requires c κs = tt
 
 -- src/holders.rt:55:9
 with-port-requires : tie.Need-with-port-requires Inv-loop μ-loop
-with-port-requires c κs = ?
+with-port-requires c κs = tt
 
 -- src/holders.rt:56:9
 add-p : tie.Need-add-p Inv-loop μ-loop
-add-p c = ?
+add-p c = omega arith
 
 -- src/holders.rt:54:5
 loop-less : tie.Need-loop-less Inv-loop μ-loop
-loop-less c = ?
+loop-less c = omega arith
 
 -- src/holders.rt:54:5
 loop-again : tie.Need-loop-again Inv-loop μ-loop
-loop-again c = ?
+unfolding lowestTwo
+loop-again c = (omega arith, rw (add-one, ← c .before .passes .ensures, ← c .before .before .before .loop .inv .1) (c .with-port .ensures))
 
 -- src/holders.rt:48:1
 returns : tie.Need-returns Inv-loop μ-loop
-returns c = ?
+returns c = all-tried _ (c .before .loop .inv .1) (c .before .loop .inv .0) (c .loop-test .left) (c .before .before .before .pre)
 
 pub lowest-at-spec : {M : Type 1} → statement M
 lowest-at-spec =

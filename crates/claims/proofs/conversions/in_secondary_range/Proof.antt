@@ -1,3 +1,4 @@
+use Rattle.claims.proofs.Laws.{last-unit}
 use borrow.Author.Tests.{ne-eqb}
 use Rattle.claims.specs.Conversion.{inSecondaryRange}
 use borrow.Author.Needs.{needs}
@@ -10,15 +11,15 @@ secondary-start-requires c κs = search needs
 unit-requires : tie.Need-unit-requires
 unit-requires c κs = search needs
 
-num-sec-dev-requires : tie.Need-num-sec-dev-requires
-num-sec-dev-requires c κs = search needs
+secondary-units-requires : tie.Need-secondary-units-requires
+secondary-units-requires c κs = search needs
 
 add-result : tie.Need-add-result
 add-result c = search needs
 
 returns : tie.Need-returns
 unfolding inSecondaryRange
-returns c = rw (c .before .before .before .before .before .if1 .taken, c .before .before .num-sec-dev .ensures .0, c .before .before .before .before .before .before .before .before .secondary-start .ensures .0, c .before .before .before .before .before .before .before .unit .ensures)
+returns c = rw (c .before .before .before .before .before .if1 .taken, c .before .before .secondary-units .ensures .0, c .before .before .before .before .before .before .before .before .secondary-start .ensures .0, c .before .before .before .before .before .before .before .unit .ensures, last-unit)
 
 with-ari-requires : tie.Need-with-ari-requires
 with-ari-requires c κs = search needs
@@ -43,7 +44,7 @@ in-secondary-range-spec =
     (tie.spec
     secondary-start-requires
     unit-requires
-    num-sec-dev-requires
+    secondary-units-requires
     add-result
     returns
     with-ari-requires

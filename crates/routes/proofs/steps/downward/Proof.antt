@@ -1,3 +1,4 @@
+use Rattle.chassis.specs.Walk.{downward}
 use borrow.Author.Needs.{needs}
 use Rattle.routes.proofs.steps.downward.Statement.{statement}
 use Rattle.routes.proofs.steps.downward.Tie as tie
@@ -6,29 +7,31 @@ use Rattle.routes.proofs.steps.downward.Lts as lts
 use Rattle.claims.proofs.conversion.Reads as conversion-reads
 use Rattle.routes.proofs.steps.decide.Reads as decide-reads
 
--- src/steps.rt:60:44
+-- src/steps.rt:59:44
 enum-told : tie.Need-enum-told
 enum-told c = search needs
 
--- src/steps.rt:61:24
+-- src/steps.rt:60:24
 enum-known-packet : tie.Need-enum-known-packet
 enum-known-packet c = search needs
 
--- src/steps.rt:61:42
+-- src/steps.rt:60:42
 conversion-requires : tie.Need-conversion-requires
 conversion-requires c κs = search needs
 
--- src/steps.rt:61:32
+-- src/steps.rt:60:32
 decide-requires : tie.Need-decide-requires
 decide-requires c κs = search needs
 
--- src/steps.rt:56:1
+-- src/steps.rt:55:1
 returns : tie.Need-returns
-returns c = ?
+unfolding downward
+returns c = rw (c .enum-told .given .1)
 
--- src/steps.rt:56:1
+-- src/steps.rt:55:1
 returns-2 : tie.Need-returns-2
-returns-2 c = ?
+unfolding downward
+returns-2 c = rw (c .before .before .before .packet .given .1, ← c .before .conversion .ensures) (c .decide .ensures)
 
 pub downward-spec : {M : Type 1} → statement M
 downward-spec =

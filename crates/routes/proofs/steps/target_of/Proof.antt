@@ -4,21 +4,21 @@ use Rattle.routes.proofs.steps.target_of.Tie as tie
 use Rattle.routes.proofs.steps.target_of.Reads as reads
 use Rattle.routes.proofs.steps.target_of.Lts as lts
 
--- src/steps.rt:24:23
+-- src/steps.rt:23:23
 enum-known-packet : tie.Need-enum-known-packet
 enum-known-packet c = search needs
 
--- src/steps.rt:25:24
+-- src/steps.rt:24:24
 enum-known-packet-2 : tie.Need-enum-known-packet-2
 enum-known-packet-2 c = search needs
 
--- src/steps.rt:20:1
+-- src/steps.rt:19:1
 returns : tie.Need-returns
-returns c = search needs
+returns c = rw (c .before .packet .given .1)
 
--- src/steps.rt:20:1
+-- src/steps.rt:19:1
 returns-2 : tie.Need-returns-2
-returns-2 c = ?
+returns-2 c = rw (c .before .packet2 .given .1)
 
 pub target-of-spec : {M : Type 1} → statement M
 target-of-spec = tie.close (tie.spec enum-known-packet enum-known-packet-2 returns returns-2)

@@ -1,0 +1,137 @@
+-- What a walk that is not refused has, and that the call's answer is the only one it may give. Assumes nothing.
+use Prim.Native.Nat.{ℕ, _<_, _≤_, _^_}
+use mathlib.Core.Bool.{Bool, true, false, not, _||_}
+use mathlib.Core.List.{List}
+use mathlib.Core.Path.{_≡_, refl, sym, ap, subst, subst₂, _∙_}
+use native.Mathlib.Omega.{arith}
+use borrow.Author.Tests.{eqb-true, ne-eqb, leb-false, ltb-true, not-false}
+use lib.Dec.{eqb, ltb}
+use Rattle.chassis.specs.declared.Packet.{Packet}
+use Rattle.chassis.specs.declared.Whereabouts.{Whereabouts}
+use Rattle.chassis.specs.declared.Whereabouts.the-variants.{Root}
+use Rattle.chassis.specs.Chassis.{Chassis}
+use Rattle.chassis.specs.Tree.{Tree, root, isDevicePort, hasChildBelow, upstream}
+use Rattle.chassis.specs.Walk.{comeTo}
+use Rattle.chassis.proofs.Bools.{or-false-parts, and-true-parts}
+use Rattle.chassis.proofs.Starts.{comeTo-root, comeTo-within}
+use Rattle.chassis.proofs.Steps.{Within}
+use Rattle.chassis.proofs.Tree.{Sane}
+use Rattle.chassis.proofs.Walks.{walk-one}
+use Rattle.paths.specs.Paths.{pathOf}
+use Rattle.picture.specs.declared.Header.{Header}
+use Rattle.picture.specs.declared.Refusal.{Refusal}
+use Rattle.picture.specs.declared.Reading.{Reading}
+use Rattle.picture.specs.declared.Reading.the-variants.{Read, Refused as NotRead}
+use Rattle.picture.specs.Reading.{reading}
+use Rattle.picture.proofs.Laws.{count-of}
+use Rattle.picture.proofs.WhatReads.{reads, reads-sane}
+use Rattle.trees.specs.Trees.{countOf, treeOf}
+use Rattle.claims.specs.Claims.{chassisOf}
+use Rattle.routes.specs.declared.Walked.{Walked}
+use Rattle.routes.specs.Routes.{Arrives}
+use Rattle.judge.specs.declared.WalkAnswer.{WalkAnswer}
+use Rattle.judge.specs.Refusals.{number16}
+use Rattle.judge.specs.Walking.{packetOf, idTooLarge, isStart, askedWrongly, refusedWalk, endedWalk, AskedGives, ReadGives, WalkGives}
+
+module _ (tree : Tree) (kind start target : ℕ) (asked : askedWrongly tree kind start target ≡ false) where
+  parts : ((ltb 2 kind || idTooLarge kind target) ≡ false) × (not (isStart tree start) ≡ false)
+  unfolding askedWrongly
+  parts = or-false-parts (ltb 2 kind || idTooLarge kind target) (not (isStart tree start)) asked
+
+  pub id-fits : idTooLarge kind target ≡ false
+  id-fits = or-false-parts (ltb 2 kind) (idTooLarge kind target) (parts .0) .1
+
+  start-right : isStart tree start ≡ true
+  start-right = not-false (isStart tree start) (parts .1)
+
+-- an ID that is not too large has 16 bits
+pub id-small : (kind target : ℕ) → (kind ≡ 1 → ⊥) → idTooLarge kind target ≡ false → target < 2 ^ 16
+unfolding idTooLarge
+id-small kind target other fits = leb-false (2 ^ 16) target (rw (ne-eqb kind 1 other) at fits)
+
+-- a start is 255 or a port
+pub data Starts (tree : Tree) (start : ℕ) : Type 0 where
+  at-root : start ≡ root → Starts tree start
+  at-port : start < tree .count → Starts tree start
+
+device-port-below : (tree : Tree) (p : ℕ) → isDevicePort tree p ≡ true → p < tree .count
+unfolding isDevicePort
+device-port-below tree p e =
+    ltb-true p (tree .count) (and-true-parts (ltb p (tree .count)) _ (and-true-parts _ (not (hasChildBelow tree (tree .count) p)) e .0) .0)
+
+pub starts : (tree : Tree) (start : ℕ) → isStart tree start ≡ true → Starts tree start
+unfolding isStart
+starts tree start e = go (eqb start root) (isDevicePort tree start) refl refl e
+  where
+    go : (a b : Bool) → eqb start root ≡ a → isDevicePort tree start ≡ b → (a || b) ≡ true → Starts tree start
+    go true b ea eb e = at-root (eqb-true start root ea)
+    go false true ea eb e = at-port (device-port-below tree start eb)
+    go false false ea eb e = let z : _≡_ {A = ℕ} 0 1 = cc in absurd (omega arith)
+
+module _ (c : Chassis) (sane : Sane (c .tree)) (start : ℕ) where
+  pub start-small : Starts (c .tree) start → start < 256
+  start-small (at-root e) = omega arith
+  start-small (at-port l) = omega (arith, sane .few)
+
+  pub start-within : Starts (c .tree) start → Within c (comeTo start)
+  start-within (at-root e) = subst (λ (n : ℕ). Within c (comeTo n)) (sym e) (subst (Within c) (sym comeTo-root) tt)
+  start-within (at-port l) = comeTo-within c sane start l
+
+-- where the rules lead is one place, by one path
+arrives-one : {c : Chassis} {packet : Packet} {start : Whereabouts} (a b : Walked) → Arrives c packet start a → Arrives c packet start b → a ≡ b
+arrives-one a b x y =
+    let one = walk-one (x .walk) (y .walk) in
+    λ i. record { path = (x .named ∙ ap pathOf (one .0) ∙ sym (y .named)) i; end = one .1 i }
+
+-- the walk call has one answer
+pub walk-only : (s : List ℕ) (kind start target : ℕ) (a b : WalkAnswer) → WalkGives s kind start target a → WalkGives s kind start target b → a ≡ b
+walk-only s kind start target a b = read (reading s)
+  where
+    asked : (wrong : Bool) → AskedGives wrong s kind start target a → AskedGives wrong s kind start target b → a ≡ b
+    asked true x y = x ∙ sym y
+    asked false x y = x .2 ∙ ap endedWalk (arrives-one (x .0) (y .0) (x .1) (y .1)) ∙ sym (y .2)
+
+    read : (got : Reading) → ReadGives got s kind start target a → ReadGives got s kind start target b → a ≡ b
+    read (NotRead r) x y = x ∙ sym y
+    read (Read h) x y = asked (askedWrongly (chassisOf s .tree) kind start target) x y
+
+-- the three ways in which the call ends
+module _ (s : List ℕ) (kind start target : ℕ) (answer : WalkAnswer) where
+  pub gives-unread : (r : Refusal) → reading s ≡ NotRead r → answer ≡ refusedWalk r → WalkGives s kind start target answer
+  gives-unread r unread e = subst (λ (got : Reading). ReadGives got s kind start target answer) (sym unread) e
+
+  module _ (h : Header) (read : reading s ≡ Read h) where
+    asked-gives : (wrong : Bool) → askedWrongly (treeOf s) kind start target ≡ wrong → AskedGives wrong s kind start target answer → WalkGives s kind start target answer
+    asked-gives wrong asked gives =
+        subst (λ (got : Reading). ReadGives got s kind start target answer) (sym read)
+        (subst (λ (b : Bool). AskedGives b s kind start target answer) (sym asked) gives)
+
+    pub gives-16 : askedWrongly (treeOf s) kind start target ≡ true → answer ≡ refusedWalk number16 → WalkGives s kind start target answer
+    gives-16 asked e = asked-gives true asked e
+
+    pub gives-end : {packet : Packet} {from : Whereabouts} (w : Walked) → askedWrongly (treeOf s) kind start target ≡ false
+        → packet ≡ packetOf kind target → from ≡ comeTo start → Arrives (chassisOf s) packet from w → answer ≡ endedWalk w
+        → WalkGives s kind start target answer
+    gives-end w asked what where-from arrives e =
+        asked-gives false asked (w, subst₂ (λ (p : Packet) (x : Whereabouts). Arrives (chassisOf s) p x w) what where-from arrives, e)
+
+-- what a picture that reads and a call that is not refused give the walk
+module _ (s : List ℕ) (h : Header) (read : reading s ≡ Read h) where
+  pub count-read : h .count ≡ countOf s
+  count-read = count-of s h (reads s h read .header)
+
+  pub sane-read : Sane (treeOf s)
+  sane-read = reads-sane s h (reads s h read)
+
+  pub count-few : h .count ≤ 64
+  count-few = rw count-read (sane-read .few)
+
+  module _ (kind start target : ℕ) (asked : askedWrongly (treeOf s) kind start target ≡ false) where
+    started : Starts (treeOf s) start
+    started = starts (treeOf s) start (start-right (treeOf s) kind start target asked)
+
+    pub small-start : start < 256
+    small-start = start-small (chassisOf s) sane-read start started
+
+    pub within-start : {from : Whereabouts} → from ≡ comeTo start → Within (chassisOf s) from
+    within-start e = subst (Within (chassisOf s)) (sym e) (start-within (chassisOf s) sane-read start started)

@@ -1,0 +1,6 @@
+pub mod Refusals
+pub mod Claiming
+pub mod Converting
+pub mod Walking
+pub mod Ends
+pub mod Checking

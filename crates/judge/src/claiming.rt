@@ -1,0 +1,26 @@
+// Whether a port of a picture claims a target.
+use crate::ClaimAnswer;
+use crate::refusals::number_16;
+use crate::refusals::refusal_of;
+use ids::PortNo;
+use ids::Target;
+use picture::Reading;
+ghost use mathlib.Core.Path.{_≡_};
+ghost use Rattle.picture.specs.Reading.{reading};
+ghost use Rattle.judge.specs.Claiming.{claimAnswer, claimNumber};
+ghost use Rattle.judge.specs.Refusals.{portNumber};
+
+pub fn claim(s: &[u8], port: u32, t: Target) -> ClaimAnswer
+    ensures { λ r. ⌜ r ≡ claimAnswer (now (s .entry)) port t ⌝ }
+    ensures { λ r. ⌜ claimNumber r ≡ portNumber (reading (now (s .entry))) port ⌝ }
+{
+    let got = picture::read(s);
+    let Reading::Read(h) = got else {
+        return ClaimAnswer::Refused(refusal_of(got));
+    };
+    let count = h.count as u32;
+    if count <= port {
+        return ClaimAnswer::Refused(number_16());
+    }
+    ClaimAnswer::Claimed(claims::claims(s, PortNo(port as u8), t))
+}

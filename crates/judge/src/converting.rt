@@ -1,0 +1,27 @@
+// What a port of a picture makes of a configuration request for an ID.
+use crate::ConvertAnswer;
+use crate::refusals::number_16;
+use crate::refusals::refusal_of;
+use ids::PortNo;
+use ids::Rid;
+use ids::Target;
+use picture::Reading;
+ghost use mathlib.Core.Path.{_≡_};
+ghost use Rattle.picture.specs.Reading.{reading};
+ghost use Rattle.judge.specs.Converting.{convertAnswer, convertNumber};
+ghost use Rattle.judge.specs.Refusals.{portNumber};
+
+pub fn convert(s: &[u8], port: u32, rid: Rid) -> ConvertAnswer
+    ensures { λ r. ⌜ r ≡ convertAnswer (now (s .entry)) port rid ⌝ }
+    ensures { λ r. ⌜ convertNumber r ≡ portNumber (reading (now (s .entry))) port ⌝ }
+{
+    let got = picture::read(s);
+    let Reading::Read(h) = got else {
+        return ConvertAnswer::Refused(refusal_of(got));
+    };
+    let count = h.count as u32;
+    if count <= port {
+        return ConvertAnswer::Refused(number_16());
+    }
+    ConvertAnswer::Converted(claims::conversion(s, PortNo(port as u8), Target::Id(rid)))
+}

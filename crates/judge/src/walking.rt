@@ -1,0 +1,108 @@
+// The walk call: where a packet goes, from the host or from a device port.
+use crate::Outcome;
+use crate::WalkAnswer;
+use crate::refusals::number_16;
+use crate::refusals::refusal_of;
+use chassis::Packet;
+use chassis::Whereabouts;
+use ids::PortNo;
+use ids::Rid;
+use ids::Target;
+use paths::Path;
+use picture::Reading;
+use picture::Refusal;
+use routes::Walked;
+ghost use mathlib.Core.Bool.{false};
+ghost use mathlib.Core.Path.{_≡_};
+ghost use Prim.Native.Nat.{_<_};
+ghost use Rattle.chassis.specs.Walk.{comeTo};
+ghost use Rattle.trees.specs.Trees.{countOf, treeOf};
+ghost use Rattle.judge.specs.Walking.{packetOf, idTooLarge, isStart, askedWrongly, refusedWalk, endedWalk, WalkGives};
+
+fn id_too_large(kind: u32, target: u64) -> bool
+    ensures { λ r. ⌜ r ≡ idTooLarge kind target ⌝ }
+{
+    !(kind == 1) & (65536 <= target)
+}
+
+// The packet of a kind, 0 to 2, for a target that is no ID over FFFFh.
+fn packet_of(kind: u32, target: u64) -> Packet
+    requires { ⌜ idTooLarge kind target ≡ false ⌝ }
+    ensures { λ r. ⌜ r ≡ packetOf kind target ⌝ }
+{
+    if kind == 1 {
+        return Packet::Plain(Target::Addr(target));
+    }
+    let rid = Rid(target as u16);
+    if kind == 0 {
+        return Packet::Plain(Target::Id(rid));
+    }
+    Packet::Config(rid)
+}
+
+// Whether a packet may start there: at the root, or below a device port.
+fn is_start(s: &[u8], n: u8, start: u32) -> bool
+    requires { ⌜ n ≡ countOf (now s) ⌝ }
+    ensures { λ r. ⌜ r ≡ isStart (treeOf (now (s .entry))) start ⌝ }
+{
+    if start == 255 {
+        return true;
+    }
+    let count = n as u32;
+    if count <= start {
+        return false;
+    }
+    trees::is_device_port(s, n, PortNo(start as u8))
+}
+
+// Number 16.
+fn asked_wrongly(s: &[u8], n: u8, kind: u32, start: u32, target: u64) -> bool
+    requires { ⌜ n ≡ countOf (now s) ⌝ }
+    ensures { λ r. ⌜ r ≡ askedWrongly (treeOf (now (s .entry))) kind start target ⌝ }
+{
+    (2 < kind) | id_too_large(kind, target) | !is_start(s, n, start)
+}
+
+fn start_of(start: u32) -> Whereabouts
+    requires { ⌜ start < 256 ⌝ }
+    ensures { λ r. ⌜ r ≡ comeTo start ⌝ }
+{
+    if start == 255 {
+        return Whereabouts::Root;
+    }
+    Whereabouts::From(PortNo(start as u8))
+}
+
+fn refused(r: Refusal) -> WalkAnswer
+    ensures { λ a. ⌜ a ≡ refusedWalk r ⌝ }
+{
+    WalkAnswer {
+        outcome: Outcome::Refused(r),
+        path: Path::new(),
+    }
+}
+
+fn ended(w: Walked) -> WalkAnswer
+    ensures { λ a. ⌜ a ≡ endedWalk w ⌝ }
+{
+    let end = w.end;
+    let path = w.path;
+    WalkAnswer {
+        outcome: Outcome::Ended(end),
+        path,
+    }
+}
+
+pub fn walk(s: &[u8], kind: u32, start: u32, target: u64) -> WalkAnswer
+    ensures { λ r. ⌜ WalkGives (now (s .entry)) kind start target r ⌝ }
+{
+    let got = picture::read(s);
+    let Reading::Read(h) = got else {
+        return refused(refusal_of(got));
+    };
+    let n = h.count as u8;
+    if asked_wrongly(s, n, kind, start, target) {
+        return refused(number_16());
+    }
+    ended(routes::walk_from(s, n, packet_of(kind, target), start_of(start)))
+}

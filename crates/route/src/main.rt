@@ -1,0 +1,70 @@
+// route id|addr|config START TARGET: where a packet goes in the picture on standard input. START is `host` or the number of
+// a device port, TARGET a number in hexadecimal.
+mod numbers;
+mod printing;
+
+use libc::STDIN_FILENO;
+use numbers::Number;
+
+// The packet kind that a word names: 0 ID, 1 address, 2 configuration request.
+fn kind_of(word: &[u8]) -> Number {
+    if numbers::same(word, b"id") {
+        return Number::Is(0);
+    }
+    if numbers::same(word, b"addr") {
+        return Number::Is(1);
+    }
+    if numbers::same(word, b"config") {
+        return Number::Is(2);
+    }
+    Number::Bad
+}
+
+// 255 for the host, or the number of a port.
+fn start_of(word: &[u8]) -> Number {
+    if numbers::same(word, b"host") {
+        return Number::Is(255);
+    }
+    numbers::decimal(word)
+}
+
+// The number that argument i stands for: the packet kind, the start and the target, in this order.
+fn argument(i: usize) -> Number {
+    let mut word = [0u8; 32];
+    let n = os::arg(i, &mut word);
+    if i == 1 {
+        return kind_of(&word[..n]);
+    }
+    if i == 2 {
+        return start_of(&word[..n]);
+    }
+    numbers::hexadecimal(&word[..n])
+}
+
+fn main() {
+    if os::arg_count() != 4 {
+        printing::print_usage();
+        return;
+    }
+    let Number::Is(kind) = argument(1) else {
+        printing::print_usage();
+        return;
+    };
+    let Number::Is(start) = argument(2) else {
+        printing::print_usage();
+        return;
+    };
+    let Number::Is(target) = argument(3) else {
+        printing::print_usage();
+        return;
+    };
+    let mut buffer = [0u8; 65537];
+    let n = io::read_full(STDIN_FILENO, &mut buffer);
+    let answer = judge::walk(
+        &buffer[..n],
+        numbers::clamped(kind),
+        numbers::clamped(start),
+        target,
+    );
+    printing::print_walk(answer, kind == 2);
+}
