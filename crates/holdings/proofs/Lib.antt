@@ -1,3 +1,4 @@
 pub mod Bools
 pub mod Words
 pub mod Firsts
+pub mod NextIs
