@@ -95,6 +95,39 @@ SAMPLES = {
     'reserved-size': picture([Port(ROOT, 255, 8), Port(ROOT, 255, 16).vector(RID, 1, 0, 0, [])]),
     'start-misaligned': picture([Port(ROOT, 255, 8).vector(LOW, 0, 4, 8, [0])]),
     'vectors-past-the-end': changed(picture([Port(ROOT, 255, 8).vector(RID, 0, 0, 0, [3])])[:-1], 4, [16 + 56 + 31]),
+    # two siblings with one memory granule, as on the bench: ports 2 and 3 below the switch, each with entry 5 of a Low vector set
+    'shared-granule': picture([
+        Port(ROOT, 255, 0x0008, buses=(1, 4), memory=(0xE000, 0xEFF0)),
+        Port(UPSTREAM, 0, 0x0100, buses=(2, 4), memory=(0xE000, 0xEFF0)),
+        Port(DOWNSTREAM, 1, 0x0200, buses=(3, 3)).vector(LOW, 0, 0, 0xE00, [1, 5]),
+        Port(DOWNSTREAM, 1, 0x0208, buses=(4, 4)).vector(LOW, 0, 0, 0xE00, [5, 9]),
+    ]),
+    # ports 2 and 9 of one switch share the last granule below 2^64, at different granularities
+    'far-apart-at-the-top': picture([
+        Port(ROOT, 255, 0x0008, buses=(1, 20), prefetchable=(0xFFF1, 0xFFF1), upper=(0xFFFFFFF0, 0xFFFFFFFF)),
+        Port(UPSTREAM, 0, 0x0100, buses=(2, 20), prefetchable=(0xFFF1, 0xFFF1), upper=(0xFFFFFFF0, 0xFFFFFFFF)),
+    ] + [Port(DOWNSTREAM, 1, 0x0200 + 8 * i, buses=(3 + i, 3 + i)).vector(HIGH, 0, *high) for i, high in enumerate(
+        [(0, 0xFFFFFFFFF, [0]), (0, 0, []), (0, 0, []), (0, 0, []), (0, 0, []), (0, 0, []), (0, 0, []), (7, 0xFFFFFFF80, [0])])]),
+    # an overlap at exactly 4 GiB: a Prefetchable window that ends just above it, and a High granule of 32 GiB that begins below it
+    'at-four-gib': picture([
+        Port(ROOT, 255, 8, prefetchable=(0xFFF1, 0x0001), upper=(0, 1)),
+        Port(ROOT, 255, 16).vector(HIGH, 0, 7, 0, [0]),
+    ]),
+    # a bus pair and a RID vector meet at FFFFh
+    'last-id': picture([
+        Port(ROOT, 255, 8, buses=(0xFF, 0xFF)),
+        Port(ROOT, 255, 16).vector(RID, 0, 0, 0x1FFF, [0]),
+    ]),
+    'own-id-claimed': picture([Port(ROOT, 255, 0x0108, buses=(1, 1))]),
+    'stray-id': picture([Port(ROOT, 255, 8, buses=(1, 1)), Port(UPSTREAM, 0, 0x0100, buses=(2, 2))]),
+    'stray-address': picture([
+        Port(ROOT, 255, 8, buses=(1, 2), memory=(0xE000, 0xE000)),
+        Port(UPSTREAM, 0, 0x0100, buses=(2, 2), memory=(0xE000, 0xE010)),
+    ]),
+    'own-id-lost': picture([
+        Port(ROOT, 255, 8, buses=(1, 3)),
+        Port(UPSTREAM, 0, 0x0110, buses=(2, 3)),
+    ]),
     'eight-before-nine': picture([Port(ROOT, 255, 8).vector(LOW, 0, 4, 8, [0]), Port(ROOT, 255, 16, memory=(0xE001, 0xE000))]),
 }
 

@@ -25,7 +25,7 @@ pub fn vector_claims(f: Fpb, m: Mechanism, v: &[u8], t: u64) -> bool
 }
 
 // Address bits 31:20 of a base or limit register, the bits below them zero.
-fn base_of(register: u16) -> u64
+pub fn base_of(register: u16) -> u64
     ensures { λ r. ⌜ r ≡ baseOf register ⌝ }
     ensures { λ r. ⌜ r ≤ 2 ^ 32 - 2 ^ 20 ⌝ }
 {
@@ -40,7 +40,7 @@ pub fn memory_claims(b: Bridge, a: u64) -> bool
 }
 
 // The upper word of a prefetchable base or limit, which type 0 ignores.
-fn upper_of(b: Bridge, upper: u32) -> u64
+pub fn upper_of(b: Bridge, upper: u32) -> u64
     ensures { λ r. ⌜ r ≡ upperOf b upper ⌝ }
     ensures { λ r. ⌜ r ≤ 2 ^ 64 - 2 ^ 32 ⌝ }
 {

@@ -3,3 +3,4 @@ pub mod Claiming
 pub mod Converting
 pub mod Walking
 pub mod Ends
+pub mod Checking

@@ -1,4 +1,5 @@
 // The library's calls: any bytes, any numbers, and one answer for each, with a file for every call.
+mod checking;
 mod claiming;
 mod converting;
 mod refusals;
@@ -6,6 +7,8 @@ mod walking;
 
 use chassis::Conversion;
 use chassis::End;
+use chassis::Verdict;
+pub use checking::check;
 pub use claiming::claim;
 pub use converting::convert;
 use paths::Path;
@@ -34,4 +37,10 @@ pub enum Outcome {
 pub struct WalkAnswer {
     pub outcome: Outcome,
     pub path: Path,
+}
+
+// What the check finds, or why the picture does not read.
+pub enum CheckAnswer {
+    Refused(Refusal),
+    Judged(Verdict),
 }

@@ -22,7 +22,7 @@ module _ (r : Range) where
   unfolding inRange
   below t l = rw (lt-leb (r .lo) t l)
 
-  above : (t : ℕ) → r .hi < t → inRange r t ≡ false
+  pub above : (t : ℕ) → r .hi < t → inRange r t ≡ false
   unfolding inRange
   above t h = go (decLt t (r .lo))
     where

@@ -63,7 +63,7 @@ fn next_miss(v: &[u8], s: Settings, from: u64) -> Found
 }
 
 // A finding, unless it lies above `hi`.
-fn clip(found: Found, hi: u64) -> Found
+pub fn clip(found: Found, hi: u64) -> Found
     ensures { λ r. ⌜ r ≡ clipped found hi ⌝ }
 {
     match found {

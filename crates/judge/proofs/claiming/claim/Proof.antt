@@ -1,4 +1,5 @@
-use Rattle.judge.proofs.Laws.{read-passed, claim-numbered}
+use Rattle.judge.proofs.Walks.{count-few}
+use Rattle.judge.proofs.Laws.{claim-numbered}
 use native.Mathlib.Omega.{arith}
 use mathlib.Core.Path.{sym, _∙_}
 use borrow.Author.Tests.{le-ltb, lt-ltb}
@@ -34,7 +35,7 @@ unfolding claimOf
 returns-2 c = claim-numbered _ _ _ _ (rw (c .number-16 .ensures, ← c .before .before .before .before .before .before .read .ensures, c .before .before .before .before .got .given .1) (simp (le-ltb _ _ (c .before .if1 .taken))))
 
 cast-t10 : tie.Need-cast-t10
-cast-t10 c = omega (arith, read-passed _ _ (sym (c .before .before .before .before .before .read .ensures) ∙ c .before .before .before .got .given .1) .1)
+cast-t10 c = omega (arith, count-few _ _ (sym (c .before .before .before .before .before .read .ensures) ∙ c .before .before .before .got .given .1))
 
 claims-requires : tie.Need-claims-requires
 claims-requires c κs = search needs

@@ -1,4 +1,5 @@
-use Rattle.judge.proofs.Laws.{read-passed, convert-numbered}
+use Rattle.judge.proofs.Walks.{count-few}
+use Rattle.judge.proofs.Laws.{convert-numbered}
 use native.Mathlib.Omega.{arith}
 use mathlib.Core.Path.{sym, _∙_}
 use borrow.Author.Tests.{le-ltb, lt-ltb}
@@ -34,7 +35,7 @@ unfolding convertOf
 returns-2 c = convert-numbered _ _ _ _ (rw (c .number-16 .ensures, ← c .before .before .before .before .before .before .read .ensures, c .before .before .before .before .got .given .1) (simp (le-ltb _ _ (c .before .if1 .taken))))
 
 cast-t11 : tie.Need-cast-t11
-cast-t11 c = omega (arith, read-passed _ _ (sym (c .before .before .before .before .before .read .ensures) ∙ c .before .before .before .got .given .1) .1)
+cast-t11 c = omega (arith, count-few _ _ (sym (c .before .before .before .before .before .read .ensures) ∙ c .before .before .before .got .given .1))
 
 conversion-requires : tie.Need-conversion-requires
 conversion-requires c κs = search needs

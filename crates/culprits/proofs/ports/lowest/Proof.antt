@@ -1,0 +1,50 @@
+use Rattle.culprits.specs.Culprits.{hasFault}
+use Rattle.picture.proofs.Laws.{culprit-here, culprit-nowhere}
+use Rattle.least.proofs.Laws.{NoneIn, none-empty, none-more}
+use Rattle.claims.specs.Claims.{chassisOf}
+use native.Mathlib.Omega.{arith}
+use Prim.Native.Nat.{_≤_, _-_}
+use mathlib.Core.Path.{sym, _∙_}
+use Rattle.culprits.proofs.ports.lowest.Statement.{statement}
+use Rattle.culprits.proofs.ports.lowest.Tie as tie
+
+abbrev Inv-loop : tie.InvT-loop
+Inv-loop s n fault p₀ p = (p ≤ n) × NoneIn (hasFault fault (chassisOf s)) 0 p
+
+abbrev μ-loop : tie.MeasureT-loop
+μ-loop s n fault p₀ p = n - p
+
+loop-holds : tie.Need-loop-holds Inv-loop μ-loop
+loop-holds c = (omega arith, none-empty (omega arith))
+
+has-fault-requires : tie.Need-has-fault-requires Inv-loop μ-loop
+has-fault-requires c κs = tt
+
+returns : tie.Need-returns Inv-loop μ-loop
+returns c = culprit-here _ _ _ (rw (c .before .before .before .before .before .pre) at (c .before .before .loop-test .taken)) (sym (c .before .has-fault .ensures) ∙ c .if1 .taken) (c .before .before .before .loop .inv .1)
+
+add-p : tie.Need-add-p Inv-loop μ-loop
+add-p c = omega arith
+
+loop-less : tie.Need-loop-less Inv-loop μ-loop
+loop-less c = omega arith
+
+loop-again : tie.Need-loop-again Inv-loop μ-loop
+loop-again c = (omega arith, none-more (c .before .before .before .loop .inv .1) (sym (c .before .has-fault .ensures) ∙ c .if1 .left))
+
+returns-2 : tie.Need-returns-2 Inv-loop μ-loop
+returns-2 c = culprit-nowhere _ _ _ (rw (c .before .before .before .pre) at (c .loop-test .left)) (rw (c .before .before .before .pre) at (c .before .loop .inv .0)) (c .before .loop .inv .1)
+
+pub lowest-spec : {M : Type 1} → statement M
+lowest-spec =
+    tie.close
+    (tie.spec
+    Inv-loop
+    μ-loop
+    loop-holds
+    has-fault-requires
+    returns
+    add-p
+    loop-less
+    loop-again
+    returns-2)

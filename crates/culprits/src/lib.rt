@@ -1,0 +1,9 @@
+// Which ports the check names: the first pair at a shared target, and the lowest port that strays or whose own ID is lost.
+mod pairs;
+mod ports;
+
+pub use pairs::Pair;
+pub use pairs::first_pair;
+pub use ports::Fault;
+pub use ports::lowest;
+pub use ports::lowest_stray;

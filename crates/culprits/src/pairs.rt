@@ -1,0 +1,53 @@
+// Numbers 11 and 12: the first pair of ports that share a target.
+use claims::claims;
+use claims::holds;
+use claims::is_own;
+use ids::PortNo;
+use ids::Target;
+use trees::parent_at;
+ghost use mathlib.Core.Bool.{true};
+ghost use mathlib.Core.Path.{_≡_};
+ghost use Rattle.chassis.specs.Check.{clash, shared};
+ghost use Rattle.trees.specs.Trees.{countOf};
+ghost use Rattle.claims.specs.Claims.{chassisOf};
+ghost use Rattle.culprits.specs.Culprits.{pairAt};
+
+pub struct Pair {
+    pub first: PortNo,
+    pub second: PortNo,
+}
+
+// Whether two siblings hold the target, or a port claims its own ID.
+fn clashes(s: &[u8], t: Target, p: PortNo, q: PortNo) -> bool
+    ensures { λ r. ⌜ r ≡ clash (chassisOf (now (s .entry))) t (p .0) (q .0) ⌝ }
+{
+    if p.0 == q.0 {
+        return is_own(s, p, t) & claims(s, p, t);
+    }
+    if parent_at(s, p).0 == parent_at(s, q).0 {
+        return holds(s, p, t) & holds(s, q, t);
+    }
+    false
+}
+
+// The first pair at a target that is shared, by first port and then second, a port with itself tried too.
+pub fn first_pair(s: &[u8], n: u8, t: Target) -> Pair
+    requires { ⌜ n ≡ countOf (now s) ⌝ }
+    requires { ⌜ shared (chassisOf (now s)) t ≡ true ⌝ }
+    ensures { λ r. ⌜ r ≡ pairAt (chassisOf (now (s .entry))) t ⌝ }
+{
+    let mut p: u8 = 0;
+    'ports: loop {
+        let mut q: u8 = 0;
+        while q < n {
+            if clashes(s, t, PortNo(p), PortNo(q)) {
+                break 'ports Pair {
+                    first: PortNo(p),
+                    second: PortNo(q),
+                };
+            }
+            q += 1;
+        }
+        p += 1;
+    }
+}

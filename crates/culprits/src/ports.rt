@@ -1,0 +1,86 @@
+// Numbers 13 to 15: the lowest port that strays at a target, or whose own ID is lost.
+use chassis::Conversion;
+use claims::claims;
+use claims::conversion;
+use claims::holds;
+use claims::own_id;
+use ids::PortNo;
+use ids::Target;
+use picture::Culprit;
+use trees::kind_at;
+use trees::parent_at;
+ghost use mathlib.Core.Path.{_≡_};
+ghost use Rattle.least.specs.Least.{firstIn};
+ghost use Rattle.chassis.specs.Check.{straysAt, isType0, ownIdLost, lowestPort};
+ghost use Rattle.trees.specs.Trees.{countOf};
+ghost use Rattle.picture.specs.Reading.{culpritOf};
+ghost use Rattle.claims.specs.Claims.{chassisOf};
+ghost use Rattle.culprits.specs.Culprits.{hasFault};
+
+// What may be wrong with a port by itself.
+pub enum Fault {
+    Stray(Target),
+    Lost,
+}
+
+// Whether port p is no root port and holds a target that its parent does not claim.
+fn strays_at(s: &[u8], t: Target, p: PortNo) -> bool
+    ensures { λ r. ⌜ r ≡ straysAt (chassisOf (now (s .entry))) t (p .0) ⌝ }
+{
+    !(kind_at(s, p) == 0) & holds(s, p, t) & !claims(s, parent_at(s, p), t)
+}
+
+fn is_type0(made: Conversion) -> bool
+    ensures { λ r. ⌜ r ≡ isType0 made ⌝ }
+{
+    match made {
+        Conversion::NotClaimed => false,
+        Conversion::Type0 => true,
+        Conversion::Type1 => false,
+        Conversion::Unsupported => false,
+    }
+}
+
+// Whether port p is no root port and its parent does not claim its own ID and convert it to Type 0.
+fn own_id_lost(s: &[u8], p: PortNo) -> bool
+    ensures { λ r. ⌜ r ≡ ownIdLost (chassisOf (now (s .entry))) (p .0) ⌝ }
+{
+    let parent = parent_at(s, p);
+    let own = Target::Id(own_id(s, p));
+    !(kind_at(s, p) == 0) & !(claims(s, parent, own) & is_type0(conversion(s, parent, own)))
+}
+
+fn has_fault(s: &[u8], fault: Fault, p: PortNo) -> bool
+    ensures { λ r. ⌜ r ≡ hasFault fault (chassisOf (now (s .entry))) (p .0) ⌝ }
+{
+    match fault {
+        Fault::Stray(t) => strays_at(s, t, p),
+        Fault::Lost => own_id_lost(s, p),
+    }
+}
+
+// The lowest of n ports that has a fault.
+pub fn lowest(s: &[u8], n: u8, fault: Fault) -> Culprit
+    requires { ⌜ n ≡ countOf (now s) ⌝ }
+    ensures { λ r. ⌜ r ≡ culpritOf (firstIn (hasFault fault (chassisOf (now (s .entry)))) 0 (countOf (now (s .entry)))) ⌝ }
+{
+    let mut p: u8 = 0;
+    while p < n {
+        if has_fault(s, fault, PortNo(p)) {
+            return Culprit::Port(PortNo(p));
+        }
+        p += 1;
+    }
+    Culprit::Nobody
+}
+
+// The lowest of n ports that strays at a target; 255 where none does.
+pub fn lowest_stray(s: &[u8], n: u8, t: Target) -> PortNo
+    requires { ⌜ n ≡ countOf (now s) ⌝ }
+    ensures { λ r. ⌜ r ≡ lowestPort (chassisOf (now (s .entry))) (straysAt (chassisOf (now (s .entry))) t) ⌝ }
+{
+    match lowest(s, n, Fault::Stray(t)) {
+        Culprit::Port(p) => p,
+        Culprit::Nobody => PortNo(255),
+    }
+}

@@ -1,0 +1,16 @@
+// The check call: whether a picture is sound.
+use crate::CheckAnswer;
+use crate::refusals::refusal_of;
+use picture::Reading;
+ghost use mathlib.Core.Path.{_≡_};
+ghost use Rattle.judge.specs.Checking.{checkAnswer};
+
+pub fn check(s: &[u8]) -> CheckAnswer
+    ensures { λ r. ⌜ r ≡ checkAnswer (now (s .entry)) ⌝ }
+{
+    let got = picture::read(s);
+    let Reading::Read(h) = got else {
+        return CheckAnswer::Refused(refusal_of(got));
+    };
+    CheckAnswer::Judged(verdicts::verdict(s, h.count as u8))
+}

@@ -1,0 +1,89 @@
+-- Two ports' meeting is the clash, or the stray, that the paper speaks of. Assumes nothing.
+use Prim.Native.Nat.{ℕ}
+use mathlib.Core.Bool.{Bool, true, false, not, _&&_, _||_, Bool·beq}
+use mathlib.Core.Path.{_≡_, refl, sym, ap}
+use native.Mathlib.Decide.{ℕ-discrete}
+use lib.Dec.{eqb}
+use borrow.Author.Tests.{eq-eqb, ne-eqb}
+use Rattle.ids.specs.declared.Target.{Target}
+use Rattle.chassis.specs.Chassis.{Chassis, portNo, holds}
+use Rattle.chassis.specs.Check.{clash, straysAt}
+use Rattle.chassis.specs.Tree.{rootPort}
+use Rattle.overlaps.specs.declared.meetings.Holding.{Holding}
+use Rattle.overlaps.specs.Overlaps.{has, meeting}
+
+is-true : (b : Bool) → Bool·beq b true ≡ b
+is-true true = refl
+is-true false = refl
+
+is-false : (b : Bool) → Bool·beq b false ≡ not b
+is-false true = refl
+is-false false = refl
+
+or-false : (a : Bool) → (a || false) ≡ a
+or-false true = refl
+or-false false = refl
+
+and-comm : (a b : Bool) → (a && b) ≡ (b && a)
+and-comm true true = refl
+and-comm true false = refl
+and-comm false true = refl
+and-comm false false = refl
+
+same-either-way : (a b : ℕ) → eqb a b ≡ eqb b a
+same-either-way a b = go (ℕ-discrete a b)
+  where
+    go : Dec (a ≡ b) → eqb a b ≡ eqb b a
+    go (yes e) = rw (eq-eqb a b e, eq-eqb b a (sym e))
+    go (no e) = rw (ne-eqb a b e, ne-eqb b a (λ x. e (sym x)))
+
+-- a port and a sibling, or a port and itself
+abbrev pub firstSide : ℕ → ℕ → Holding
+firstSide p q = record { port = portNo p; own = true; claims = not (eqb p q) }
+
+abbrev pub secondSide : ℕ → ℕ → Holding
+secondSide p q = record { port = portNo q; own = not (eqb p q); claims = true }
+
+-- a port and its parent
+abbrev pub held : ℕ → Holding
+held p = record { port = portNo p; own = true; claims = true }
+
+abbrev pub claimed : ℕ → Holding
+claimed p = record { port = portNo p; own = false; claims = true }
+
+module _ (c : Chassis) (t : Target) where
+  -- it does not matter which port comes first
+  pub clash-turned : (p q : ℕ) → clash c t p q ≡ clash c t q p
+  unfolding clash
+  clash-turned p q = go (ℕ-discrete p q)
+    where
+      go : Dec (p ≡ q) → clash c t p q ≡ clash c t q p
+      go (yes e) = rw e
+      go (no e) =
+          rw (
+            ne-eqb p q e,
+            ne-eqb q p (λ x. e (sym x)),
+            same-either-way (c .tree .parent p) (c .tree .parent q),
+            and-comm (holds c t p) (holds c t q),
+          )
+
+  pub clash-meets : (p q : ℕ) → c .tree .parent p ≡ c .tree .parent q → meeting c (firstSide p q) (secondSide p q) true t ≡ clash c t p q
+  unfolding meeting has clash holds
+  clash-meets p q place = go (ℕ-discrete p q)
+    where
+      go : Dec (p ≡ q) → meeting c (firstSide p q) (secondSide p q) true t ≡ clash c t p q
+      go (yes e) = rw (is-true, eq-eqb p q e, or-false, ← e)
+      go (no e) = rw (is-true, ne-eqb p q e, eq-eqb (c .tree .parent p) (c .tree .parent q) place)
+
+  pub no-clash : (p q : ℕ) → (c .tree .parent p ≡ c .tree .parent q → ⊥) → clash c t p q ≡ false
+  unfolding clash
+  no-clash p q apart =
+      rw (ne-eqb p q (λ e. apart (ap (c .tree .parent) e)), ne-eqb (c .tree .parent p) (c .tree .parent q) apart)
+
+  pub stray-meets : (p : ℕ) → (c .tree .kind p ≡ rootPort → ⊥) → meeting c (held p) (claimed (c .tree .parent p)) false t ≡ straysAt c t p
+  unfolding meeting has straysAt holds
+  stray-meets p other = rw (is-false, ne-eqb (c .tree .kind p) rootPort other)
+
+  pub no-stray : (p : ℕ) → c .tree .kind p ≡ rootPort → straysAt c t p ≡ false
+  unfolding straysAt
+  no-stray p e = rw (eq-eqb (c .tree .kind p) rootPort e)

@@ -1,0 +1,110 @@
+-- The least target over all pairs, or all ports, as the best of one after the other. Assumes nothing.
+use Prim.Native.Nat.{ℕ, _+_, _≤_, _<_}
+use mathlib.Core.Bool.{Bool, true, false, _||_}
+use mathlib.Core.Path.{_≡_, refl, sym, _∙_, ap}
+use native.Mathlib.Nat.{le-antisymm}
+use native.Mathlib.Numerals.{add-one}
+use Rattle.ids.specs.declared.Space.{Space}
+use Rattle.ids.specs.declared.Target.{Target}
+use Rattle.least.specs.declared.Found.{Found}
+use Rattle.least.specs.declared.Found.the-variants.{Nothing}
+use Rattle.least.specs.Least.{soonest}
+use Rattle.least.proofs.Laws.{none-is, first-agree, either-first, soonest-nothing}
+use Rattle.chassis.specs.Chassis.{Chassis, targetIn, spaceSize}
+use Rattle.chassis.specs.Check.{clash, clashesWith, shared, straysAt, stray, testIn, leastTarget}
+use Rattle.chassis.specs.Tree.{rootPort, anyBelow}
+use Rattle.chassis.proofs.Ports.{anyBelow-true, anyBelow-at}
+use Rattle.overlaps.specs.Overlaps.{meeting, clashOf, sharedTo, strayOf}
+use Rattle.overlaps.proofs.Clashes.{clash-turned, firstSide, secondSide, clash-meets, no-clash, held, claimed, stray-meets, no-stray}
+
+or-false : (a : Bool) → (a || false) ≡ a
+or-false true = refl
+or-false false = refl
+
+or-assoc : (a b c : Bool) → (a || (b || c)) ≡ (a || b || c)
+or-assoc true b c = refl
+or-assoc false b c = refl
+
+-- the pairs of the first p ports, and of port p with the first q
+unfoldable pub seen : Chassis → ℕ → ℕ → Target → Bool
+seen c p q t = sharedTo c p t || anyBelow (clash c t p) q
+
+-- the first k ports
+unfoldable pub strayTo : Chassis → ℕ → Target → Bool
+strayTo c k t = anyBelow (straysAt c t) k
+
+-- the pairs of port p with the ports before it were seen as pairs of those
+seen-before : (c : Chassis) (t : Target) (p : ℕ) → p < c .tree .count → sharedTo c p t ≡ seen c p p t
+unfolding seen sharedTo clashesWith
+seen-before c t p l = go (anyBelow (clash c t p) p) refl
+  where
+    go : (b : Bool) → anyBelow (clash c t p) p ≡ b
+        → anyBelow (clashesWith c t) p ≡ (anyBelow (clashesWith c t) p || anyBelow (clash c t p) p)
+    go false e = rw (e, or-false)
+    go true e =
+        let q = anyBelow-true (clash c t p) p .0 e in
+        let row : clashesWith c t (q .number) ≡ true = anyBelow-at (clash c t (q .number)) (c .tree .count) p l (clash-turned c t (q .number) p ∙ q .passes) in
+        rw (anyBelow-at (clashesWith c t) p (q .number) (q .below) row)
+
+module _ (c : Chassis) (space : Space) where
+  nothing-better : (best : Found) (test : Target → Bool) → ((t : Target) → test t ≡ false) → best ≡ soonest best (leastTarget test space)
+  unfolding testIn
+  nothing-better best test none =
+      sym (soonest-nothing best) ∙ ap (soonest best) (none-is (record { none = λ i l h. none (targetIn space i) }))
+
+  -- one pair: siblings meet, others do not clash
+  pub pair-first : (p q : ℕ) → c .tree .parent p ≡ c .tree .parent q
+      → leastTarget (meeting c (firstSide p q) (secondSide p q) true) space ≡ leastTarget (clashOf c p q) space
+  unfolding testIn clashOf
+  pair-first p q e = first-agree (λ t l h. clash-meets c (targetIn space t) p q e)
+
+  pub no-pair : (p q : ℕ) (best : Found) → (c .tree .parent p ≡ c .tree .parent q → ⊥) → best ≡ soonest best (leastTarget (clashOf c p q) space)
+  unfolding clashOf
+  no-pair p q best apart = nothing-better best (clashOf c p q) (λ t. no-clash c t p q apart)
+
+  -- one port
+  pub child-first : (p : ℕ) → (c .tree .kind p ≡ rootPort → ⊥)
+      → leastTarget (meeting c (held p) (claimed (c .tree .parent p)) false) space ≡ leastTarget (strayOf c p) space
+  unfolding testIn strayOf
+  child-first p e = first-agree (λ t l h. stray-meets c (targetIn space t) p e)
+
+  pub no-child : (p : ℕ) (best : Found) → c .tree .kind p ≡ rootPort → best ≡ soonest best (leastTarget (strayOf c p) space)
+  unfolding strayOf
+  no-child p best e = nothing-better best (strayOf c p) (λ t. no-stray c t p e)
+
+  -- all pairs: nothing at first, a row at a time, a pair at a time
+  pub pairs-begin : Nothing ≡ leastTarget (sharedTo c 0) space
+  unfolding testIn sharedTo anyBelow
+  pairs-begin = none-is (record { none = λ i l h. refl })
+
+  pub row-begins : (p : ℕ) → p < c .tree .count → leastTarget (sharedTo c p) space ≡ leastTarget (seen c p p) space
+  unfolding testIn
+  row-begins p l = first-agree (λ t k h. seen-before c (targetIn space t) p l)
+
+  pub row-more : (p q : ℕ) → soonest (leastTarget (seen c p q) space) (leastTarget (clashOf c p q) space) ≡ leastTarget (seen c p (q + 1)) space
+  unfolding testIn seen clashOf anyBelow
+  row-more p q =
+      rw add-one
+      (either-first _ _ 0 (spaceSize space)
+      (λ t. or-assoc (sharedTo c p (targetIn space t)) (anyBelow (clash c (targetIn space t) p) q) (clash c (targetIn space t) p q)))
+
+  pub row-ends : (p : ℕ) {q n : ℕ} → q ≤ n → n ≤ q → n ≡ c .tree .count → leastTarget (seen c p q) space ≡ leastTarget (sharedTo c (p + 1)) space
+  unfolding testIn seen sharedTo clashesWith anyBelow
+  row-ends p l k e = rw (le-antisymm l k ∙ e, add-one)
+
+  pub pairs-end : {p n : ℕ} → p ≤ n → n ≤ p → n ≡ c .tree .count → leastTarget (sharedTo c p) space ≡ leastTarget (shared c) space
+  unfolding testIn sharedTo shared
+  pairs-end l k e = rw (le-antisymm l k ∙ e)
+
+  -- all ports: nothing at first, a port at a time
+  pub ports-begin : Nothing ≡ leastTarget (strayTo c 0) space
+  unfolding testIn strayTo anyBelow
+  ports-begin = none-is (record { none = λ i l h. refl })
+
+  pub ports-more : (p : ℕ) → soonest (leastTarget (strayTo c p) space) (leastTarget (strayOf c p) space) ≡ leastTarget (strayTo c (p + 1)) space
+  unfolding testIn strayTo strayOf anyBelow
+  ports-more p = rw add-one (either-first _ _ 0 (spaceSize space) (λ t. refl))
+
+  pub ports-end : {p n : ℕ} → p ≤ n → n ≤ p → n ≡ c .tree .count → leastTarget (strayTo c p) space ≡ leastTarget (stray c) space
+  unfolding testIn strayTo stray
+  ports-end l k e = rw (le-antisymm l k ∙ e)

@@ -1,0 +1,3 @@
+pub mod OfMeetings
+pub mod Clashes
+pub mod Folds

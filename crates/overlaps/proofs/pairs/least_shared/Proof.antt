@@ -1,0 +1,38 @@
+use Rattle.overlaps.proofs.Folds.{pairs-begin, pairs-end}
+use Rattle.overlaps.specs.Overlaps.{sharedTo}
+use Rattle.claims.specs.Claims.{chassisOf}
+use Rattle.chassis.specs.Check.{leastTarget}
+use native.Mathlib.Omega.{arith}
+use Prim.Native.Nat.{_≤_, _-_}
+use mathlib.Core.Path.{_≡_, _∙_}
+use Rattle.overlaps.proofs.pairs.least_shared.Statement.{statement}
+use Rattle.overlaps.proofs.pairs.least_shared.Tie as tie
+
+abbrev Inv-loop : tie.InvT-loop
+Inv-loop s n space best₀ p₀ best p = (p ≤ n) × (best ≡ leastTarget (sharedTo (chassisOf s) p) space)
+
+abbrev μ-loop : tie.MeasureT-loop
+μ-loop s n space best₀ p₀ best p = n - p
+
+loop-holds : tie.Need-loop-holds Inv-loop μ-loop
+loop-holds c = (omega arith, pairs-begin (chassisOf (c .before .args .s .now)) (c .before .args .space))
+
+with-port-requires : tie.Need-with-port-requires Inv-loop μ-loop
+with-port-requires c κs = (c .before .before .before .pre, (c .loop-test .taken, c .before .loop .inv .1))
+
+add-p : tie.Need-add-p Inv-loop μ-loop
+add-p c = omega arith
+
+loop-less : tie.Need-loop-less Inv-loop μ-loop
+loop-less c = omega arith
+
+loop-again : tie.Need-loop-again Inv-loop μ-loop
+loop-again c = (omega arith, c .with-port .ensures)
+
+returns : tie.Need-returns Inv-loop μ-loop
+returns c = c .before .loop .inv .1 ∙ pairs-end (chassisOf (c .before .before .before .args .s .now)) (c .before .before .before .args .space) (c .before .loop .inv .0) (c .loop-test .left) (c .before .before .before .pre)
+
+pub least-shared-spec : {M : Type 1} → statement M
+least-shared-spec =
+    tie.close
+    (tie.spec Inv-loop μ-loop loop-holds with-port-requires add-p loop-less loop-again returns)

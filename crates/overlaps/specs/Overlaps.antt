@@ -1,0 +1,26 @@
+-- What ports share or let stray, as tests of the target that a search for the least one runs over.
+use Prim.Native.Nat.{ℕ}
+use mathlib.Core.Bool.{Bool, _&&_, _||_, Bool·beq}
+use Rattle.ids.specs.declared.Target.{Target}
+use Rattle.chassis.specs.Chassis.{Chassis, isOwn}
+use Rattle.chassis.specs.Check.{clash, clashesWith, straysAt}
+use Rattle.chassis.specs.Tree.{anyBelow}
+use Rattle.overlaps.specs.declared.meetings.Holding.{Holding}
+
+-- the port's own ID, where that is looked at, or claimed by it, where that is
+unfoldable pub has : Chassis → Holding → Target → Bool
+has c h t = h .own && isOwn c t (h .port .0) || h .claims && c .claims (h .port .0) t
+
+-- the first has it, and the second has it or does not, as is wanted
+unfoldable pub meeting : Chassis → Holding → Holding → Bool → Target → Bool
+meeting c a b want t = has c a t && Bool·beq (has c b t) want
+
+unfoldable pub clashOf : Chassis → ℕ → ℕ → Target → Bool
+clashOf c p q t = clash c t p q
+
+-- one of the first k ports clashes with some port
+unfoldable pub sharedTo : Chassis → ℕ → Target → Bool
+sharedTo c k t = anyBelow (clashesWith c t) k
+
+unfoldable pub strayOf : Chassis → ℕ → Target → Bool
+strayOf c p t = straysAt c t p

@@ -1,0 +1,46 @@
+// The least target that two ports have to do with.
+use holdings::one_of;
+use holdings::reach_at;
+use ids::PortNo;
+use ids::Space;
+use least::Found;
+use picture::vector;
+use registers::Mechanism;
+ghost use mathlib.Core.Path.{_≡_};
+ghost use Rattle.least.specs.Least.{soonest};
+ghost use Rattle.chassis.specs.Check.{leastTarget};
+ghost use Rattle.claims.specs.Claims.{chassisOf};
+ghost use Rattle.overlaps.specs.Overlaps.{meeting};
+
+// What of a port is looked at: its own ID, its claims, or both.
+pub struct Holding {
+    pub port: PortNo,
+    pub own: bool,
+    pub claims: bool,
+}
+
+// The least target of a space that a has, and that b has or does not, as is wanted; or the best so far, if that is lower.
+pub fn least_meeting(
+    s: &[u8],
+    space: Space,
+    a: Holding,
+    b: Holding,
+    want: bool,
+    best: Found,
+) -> Found
+    ensures { λ r. ⌜ r ≡ soonest best (leastTarget (meeting (chassisOf (now (s .entry))) a b want) space) ⌝ }
+{
+    let m = one_of(space);
+    let p = a.port;
+    let q = b.port;
+    search::least_both(
+        reach_at(s, p, space, a.own, a.claims),
+        vector(s, p, m),
+        vector(s, p, Mechanism::High),
+        reach_at(s, q, space, b.own, b.claims),
+        vector(s, q, m),
+        vector(s, q, Mechanism::High),
+        want,
+        best,
+    )
+}

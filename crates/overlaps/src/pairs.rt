@@ -1,0 +1,66 @@
+// Numbers 11 and 12: the least target that two ports at one place hold, or that is the own ID of a port that claims it.
+use crate::meetings::Holding;
+use crate::meetings::least_meeting;
+use ids::PortNo;
+use ids::Space;
+use least::Found;
+use trees::parent_at;
+ghost use mathlib.Core.Path.{_≡_};
+ghost use Prim.Native.Nat.{_+_, _<_};
+ghost use Rattle.least.specs.Least.{soonest};
+ghost use Rattle.chassis.specs.Check.{shared, leastTarget};
+ghost use Rattle.trees.specs.Trees.{countOf};
+ghost use Rattle.claims.specs.Claims.{chassisOf};
+ghost use Rattle.overlaps.specs.Overlaps.{clashOf, sharedTo};
+
+// The best so far, after ports p and q were tried; a port with itself is its own ID against its claims.
+fn with_pair(s: &[u8], space: Space, p: PortNo, q: PortNo, best: Found) -> Found
+    ensures { λ r. ⌜ r ≡ soonest best (leastTarget (clashOf (chassisOf (now (s .entry))) (p .0) (q .0)) space) ⌝ }
+{
+    if parent_at(s, p).0 == parent_at(s, q).0 {
+        let apart = !(p.0 == q.0);
+        let a = Holding {
+            port: p,
+            own: true,
+            claims: apart,
+        };
+        let b = Holding {
+            port: q,
+            own: apart,
+            claims: true,
+        };
+        least_meeting(s, space, a, b, true, best)
+    } else {
+        best
+    }
+}
+
+// The best so far, after port p was tried with itself and with each later one; the earlier ones were tried with it.
+fn with_port(s: &[u8], n: u8, space: Space, p: u8, best: Found) -> Found
+    requires { ⌜ n ≡ countOf (now s) ⌝ }
+    requires { ⌜ p < n ⌝ }
+    requires { ⌜ best ≡ leastTarget (sharedTo (chassisOf (now s)) p) space ⌝ }
+    ensures { λ r. ⌜ r ≡ leastTarget (sharedTo (chassisOf (now (s .entry))) (p + 1)) space ⌝ }
+{
+    let mut found = best;
+    let mut q: u8 = p;
+    while q < n {
+        found = with_pair(s, space, PortNo(p), PortNo(q), found);
+        q += 1;
+    }
+    found
+}
+
+// The least target of a space that is shared, over all pairs of n ports at all places.
+pub fn least_shared(s: &[u8], n: u8, space: Space) -> Found
+    requires { ⌜ n ≡ countOf (now s) ⌝ }
+    ensures { λ r. ⌜ r ≡ leastTarget (shared (chassisOf (now (s .entry)))) space ⌝ }
+{
+    let mut best = Found::Nothing;
+    let mut p: u8 = 0;
+    while p < n {
+        best = with_port(s, n, space, p, best);
+        p += 1;
+    }
+    best
+}

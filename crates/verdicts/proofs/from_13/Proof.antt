@@ -1,0 +1,47 @@
+use Rattle.verdicts.specs.Verdicts.{from13, from14}
+use Rattle.verdicts.proofs.Laws.{target-below, stray-found, stray-none}
+use Rattle.ids.specs.declared.Space.the-variants.{Ids}
+use Rattle.claims.specs.Claims.{chassisOf}
+use mathlib.Core.Path.{sym, _∙_}
+use borrow.Author.Needs.{needs}
+use Rattle.verdicts.proofs.from_13.Statement.{statement}
+use Rattle.verdicts.proofs.from_13.Tie as tie
+
+least-stray-requires : tie.Need-least-stray-requires
+least-stray-requires c κs = search needs
+
+enum-known-t : tie.Need-enum-known-t
+enum-known-t c = search needs
+
+target-in-requires : tie.Need-target-in-requires
+target-in-requires c κs = target-below _ Ids (sym (c .before .t .given .1) ∙ c .before .before .before .least-stray .ensures)
+
+stray-at-requires : tie.Need-stray-at-requires
+stray-at-requires c κs = search needs
+
+enum-told : tie.Need-enum-told
+enum-told c = search needs
+
+from-14-requires : tie.Need-from-14-requires
+from-14-requires c κs = search needs
+
+returns : tie.Need-returns
+unfolding from13
+returns c = c .stray-at .ensures ∙ rw (c .before .target-in .ensures) (stray-found (chassisOf (c .before .before .before .before .before .before .before .args .s .now)) Ids (from14 (chassisOf (c .before .before .before .before .before .before .before .args .s .now))) (sym (c .before .before .before .t .given .1) ∙ c .before .before .before .before .before .least-stray .ensures))
+
+returns-2 : tie.Need-returns-2
+unfolding from13
+returns-2 c = c .from-14 .ensures ∙ stray-none (chassisOf (c .before .before .before .before .before .args .s .now)) Ids (from14 (chassisOf (c .before .before .before .before .before .args .s .now))) (sym (c .before .enum-told .given .1) ∙ c .before .before .before .least-stray .ensures)
+
+pub from-13-spec : {M : Type 1} → statement M
+from-13-spec =
+    tie.close
+    (tie.spec
+    least-stray-requires
+    enum-known-t
+    target-in-requires
+    stray-at-requires
+    enum-told
+    from-14-requires
+    returns
+    returns-2)

@@ -1,0 +1,278 @@
+//! Batches of random pictures, each with a report, a check and a choice of further calls.
+
+use crate::batch::Record;
+use crate::breaking::{break_once, shake};
+use crate::cases::all_cases;
+use crate::draft::Draft;
+use crate::judge::Judge;
+use crate::picture::{Picture, Port, Refusal, Target, Vector, FOUR_GIB};
+use crate::random::Random;
+use crate::samples::{sample, SAMPLE_NAMES};
+use crate::sound::{fill, Taste};
+use crate::spoil::{chain_at_the_edge, reading_edges, spoil};
+use crate::topology::{grow, port_count, ALL_FORMS};
+use crate::wild::{add_noise, make_memory_wild, wild};
+
+/// Numbers that are no start anywhere; some would be one if they were cut to 8 or 16 bits.
+const BAD_STARTS: [u32; 8] = [64, 254, 256, 300, 511, 0xFF00, 0x1_0000, u32::MAX];
+
+/// Packet kinds that there are not.
+const BAD_KINDS: [u32; 5] = [3, 255, 256, 258, u32::MAX];
+
+/// IDs over FFFFh, some of which would be good IDs if they were cut.
+const LONG_IDS: [u64; 4] = [0x1_0000, 0x1_0308, 0x1_0000_0000, u64::MAX];
+
+/// A batch of so many pictures; the same seed gives the same batch.
+pub fn generate(seed: u64, count: u64) -> Vec<u8> {
+    let mut batch = Vec::new();
+    for index in 0..count {
+        let random = &mut Random::new(seed.wrapping_mul(0x1_0000_0001).wrapping_add(index));
+        let picture = random_picture(random);
+        write_with_calls(random, picture, &mut batch);
+    }
+    batch
+}
+
+/// The hand-written cases and all edges of reading, as a batch.
+pub fn hand_written() -> Vec<u8> {
+    let mut batch = Vec::new();
+    for case in all_cases() {
+        Record::Picture(case.picture).write(&mut batch);
+        Record::Report.write(&mut batch);
+        Record::Check.write(&mut batch);
+        case.calls.iter().for_each(|(call, _)| call.write(&mut batch));
+    }
+    for picture in reading_edges() {
+        Record::Picture(picture).write(&mut batch);
+        Record::Report.write(&mut batch);
+        Record::Check.write(&mut batch);
+        Record::Walk { kind: 0, start: 255, target: 0 }.write(&mut batch);
+        Record::Claim { port: 0, target_kind: 0, target: 0 }.write(&mut batch);
+        Record::Conversion { port: 0, id: 0 }.write(&mut batch);
+    }
+    batch
+}
+
+/// A picture of one of the families: spoiled, wild, sound, broken once, wild in memory, or shaken;
+/// seldom a chain at the edge, or a full picture.
+fn random_picture(random: &mut Random) -> Vec<u8> {
+    if random.percent(2) {
+        return chain_at_the_edge(random);
+    }
+    if random.percent(1) {
+        return full_picture(random);
+    }
+    let family = random.below(20);
+    let mut draft = if family < 5 { wild(random) } else { sound_draft(random) };
+    match family {
+        0..=9 => {}
+        10..=15 => draft = break_once(random, &draft),
+        16 | 17 => make_memory_wild(random, &mut draft),
+        _ => {
+            let times = random.between(2, 8);
+            draft = shake(random, &draft, times);
+        }
+    }
+    if random.percent(50) {
+        add_noise(random, &mut draft);
+    }
+    let mut picture = draft.bytes();
+    if matches!(family, 3..=6) {
+        spoil(random, &mut picture);
+    }
+    picture
+}
+
+/// One of the full pictures, in half of the cases broken once.
+fn full_picture(random: &mut Random) -> Vec<u8> {
+    let name = random.pick(&SAMPLE_NAMES);
+    let full = sample(name, random.bits()).expect("every name has a sample");
+    match random.percent(50) {
+        true => full.bytes(),
+        false => break_once(random, &full).bytes(),
+    }
+}
+
+/// A random sound picture.
+pub fn sound_draft(random: &mut Random) -> Draft {
+    let form = random.pick(&ALL_FORMS);
+    let count = port_count(random);
+    let ports = grow(random, form, count);
+    let taste = Taste::random(random);
+    fill(random, ports, &taste)
+}
+
+/// Writes a picture, its report and check, and calls that suit it.
+fn write_with_calls(random: &mut Random, picture: Vec<u8>, batch: &mut Vec<u8>) {
+    let judge = Judge::new(&picture);
+    Record::Picture(picture).write(batch);
+    Record::Report.write(batch);
+    Record::Check.write(batch);
+    let mut calls = match judge.reading() {
+        Ok(picture) => calls_on(random, picture),
+        Err(_) => calls_on_nothing(random),
+    };
+    if let (Ok(picture), Err(Refusal { target: Some(least), .. })) = (judge.reading(), judge.check()) {
+        calls.extend(calls_on_least_target(random, picture, least));
+    }
+    calls.iter().for_each(|call| call.write(batch));
+}
+
+/// Walks to the least target of a check and just below it, from the host and from device ports.
+fn calls_on_least_target(random: &mut Random, picture: &Picture, least: Target) -> Vec<Record> {
+    let (kinds, target): (&[u32], u64) = match least {
+        Target::Id(id) => (&[0, 0, 2], id as u64),
+        Target::Address(address) => (&[1], address),
+    };
+    let mut starts = vec![255];
+    starts.extend((0..picture.ports.len() as u32).filter(|&port| picture.is_device_port(port as usize)));
+    let mut calls = vec![Record::Walk { kind: kinds[0], start: 255, target }];
+    for _ in 0..4 {
+        let target = target.saturating_sub(random.pick(&[0, 0, 0, 1]));
+        calls.push(Record::Walk { kind: random.pick(kinds), start: random.pick(&starts), target });
+    }
+    calls
+}
+
+/// A few calls on a picture that does not read; some would be refused anyway.
+fn calls_on_nothing(random: &mut Random) -> Vec<Record> {
+    let kind = random.pick(&[0, 1, 2, 3, 256]);
+    let start = random.pick(&[255, 0, 254, 511]);
+    vec![
+        Record::Walk { kind, start, target: random.pick(&[0, 0x0308, 0x1_0000]) },
+        Record::Claim { port: random.pick(&[0, 99]), target_kind: random.below(2) as u32, target: 0 },
+        Record::Conversion { port: random.pick(&[0, 99]), id: random.pick(&[0, 0x1_0000]) },
+    ]
+}
+
+/// Calls on a picture that reads: all kinds, with targets at and around the edges of its ports.
+fn calls_on(random: &mut Random, picture: &Picture) -> Vec<Record> {
+    let mut calls = Vec::new();
+    for _ in 0..12 {
+        for kind in 0..3 {
+            calls.push(walk_call(random, picture, kind));
+        }
+    }
+    for _ in 0..8 {
+        calls.push(claim_call(random, picture, 0));
+        calls.push(claim_call(random, picture, 1));
+        calls.push(conversion_call(random, picture));
+    }
+    calls.push(Record::Walk { kind: random.pick(&BAD_KINDS), start: 255, target: 0 });
+    calls.push(Record::Walk { kind: 0, start: random.pick(&BAD_STARTS), target: 0 });
+    calls
+}
+
+/// A walk of that kind. From the host, from a device port, or sometimes from where none can start;
+/// configuration requests come mostly from the host.
+fn walk_call(random: &mut Random, picture: &Picture, kind: u32) -> Record {
+    let device_ports: Vec<usize> =
+        (0..picture.ports.len()).filter(|&port| picture.is_device_port(port)).collect();
+    let from_host = random.percent(if kind == 2 { 90 } else { 40 });
+    let start = if random.percent(3) {
+        let any_port = random_port(random, picture) as u32;
+        random.pick(&[any_port, picture.ports.len() as u32, 256])
+    } else if from_host || device_ports.is_empty() {
+        255
+    } else {
+        deepest_of_two(random, picture, &device_ports) as u32
+    };
+    let aim = some_aim(random, picture);
+    let target = if kind == 1 { address_around(random, aim) } else { id_around(random, aim) };
+    Record::Walk { kind, start, target }
+}
+
+/// A claim by some port, or by one beyond the count.
+fn claim_call(random: &mut Random, picture: &Picture, target_kind: u32) -> Record {
+    let (port, aim) = some_port_and_aim(random, picture);
+    let target = if target_kind == 1 { address_around(random, aim) } else { id_around(random, aim) };
+    Record::Claim { port, target_kind, target }
+}
+
+/// A conversion by some port, or by one beyond the count.
+fn conversion_call(random: &mut Random, picture: &Picture) -> Record {
+    let (port, aim) = some_port_and_aim(random, picture);
+    Record::Conversion { port, id: id_around(random, aim) }
+}
+
+/// A port of the picture.
+fn random_port(random: &mut Random, picture: &Picture) -> usize {
+    random.below(picture.ports.len() as u64) as usize
+}
+
+/// The deeper of two random ports of a list.
+fn deepest_of_two(random: &mut Random, picture: &Picture, ports: &[usize]) -> usize {
+    let (first, second) = (random.pick(ports), random.pick(ports));
+    if picture.depth(first) >= picture.depth(second) {
+        first
+    } else {
+        second
+    }
+}
+
+/// The number of a port to ask, seldom one beyond the count, and the port to aim at: mostly the same.
+fn some_port_and_aim<'a>(random: &mut Random, picture: &'a Picture) -> (u32, &'a Port) {
+    let port = random_port(random, picture);
+    if random.percent(3) {
+        let beyond = random.pick(&[picture.ports.len() as u32, 64, 255, 256, u32::MAX]);
+        return (beyond, &picture.ports[port]);
+    }
+    let aim = if random.percent(75) { &picture.ports[port] } else { some_aim(random, picture) };
+    (port as u32, aim)
+}
+
+/// A port to aim at, rather a deep one.
+fn some_aim<'a>(random: &mut Random, picture: &'a Picture) -> &'a Port {
+    let all: Vec<usize> = (0..picture.ports.len()).collect();
+    &picture.ports[deepest_of_two(random, picture, &all)]
+}
+
+/// An ID at or around an edge of the port, or something claimed, or any ID; seldom one over FFFFh.
+fn id_around(random: &mut Random, port: &Port) -> u64 {
+    if random.percent(2) {
+        return random.pick(&LONG_IDS);
+    }
+    let secondary_units = random.pick(&[0, 1, port.num_sec_dev as u64, port.num_sec_dev as u64 + 1]);
+    let edge = match random.below(9) {
+        0 | 1 => port.own_id as u64,
+        2 => (port.secondary as u64) << 8,
+        3 => ((port.subordinate as u64) << 8) + 0x100,
+        4 => (port.secondary_start as u64 + secondary_units) * 8,
+        5 | 6 => some_vector_edge(random, port.rid.as_ref()),
+        7 => (port.secondary as u64) << 8 | random.below(0x400),
+        _ => random.bits(),
+    };
+    let around = random.pick(&[0, 0, 0, 1, 7, 8, 0xFFFF]);
+    edge.wrapping_add(around) & 0xFFFF
+}
+
+/// An address at or around an edge of the port, or something claimed, or an edge of the space.
+fn address_around(random: &mut Random, port: &Port) -> u64 {
+    let edge = match random.below(9) {
+        0 => port.memory.base,
+        1 => port.memory.last,
+        2 => port.prefetchable.base,
+        3 => port.prefetchable.last,
+        4 | 5 => some_vector_edge(random, port.low.as_ref()),
+        6 | 7 => some_vector_edge(random, port.high.as_ref()),
+        _ => random.pick(&[0, FOUR_GIB, u64::MAX, 0xA_0000]),
+    };
+    edge.wrapping_add(random.pick(&[0, 0, 0, 1, u64::MAX, 0xF_FFFF]))
+}
+
+/// The first target of an entry: of a set one mostly, else of any, of the one before the first or
+/// after the last.
+fn some_vector_edge(random: &mut Random, vector: Option<&Vector>) -> u64 {
+    let Some(vector) = vector else { return random.bits() >> random.below(64) };
+    let set: Vec<u64> = (0..vector.size).filter(|&entry| vector.is_set(entry)).collect();
+    let entry = match random.below(8) {
+        0 => 0,
+        1 => vector.size,
+        2 => random.below(vector.size),
+        _ if set.is_empty() => 0,
+        3 => set[0],
+        4 => set[set.len() - 1] + 1,
+        _ => random.pick(&set),
+    };
+    vector.start.wrapping_add(entry * vector.granularity)
+}

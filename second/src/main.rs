@@ -1,0 +1,147 @@
+//! The program: writes batches and pictures, answers batches, compares and counts answers.
+
+use std::collections::BTreeMap;
+use std::io::{Read, Write};
+use std::process::ExitCode;
+
+use second::batch::{answers, differences, Record, Records};
+use second::generate::{generate, hand_written};
+use second::samples::{sample, SAMPLE_NAMES};
+
+const USAGE: &str = "usage:
+  second generate SEED COUNT                 a random batch on standard output
+  second batch                               the hand-written batch on standard output
+  second answers                             answers to the batch on standard input
+  second compare EXPECTED ACTUAL BATCH       first differences; status 1 if there are any
+  second tally ANSWERS BATCH                 how often each number and end was given
+  second picture SEED KIND                   a full sound picture on standard output; KIND is
+                                             flat, nested, chain, high, low, rid or wide";
+
+/// How many differences are shown.
+const DIFFERENCES_SHOWN: usize = 5;
+
+fn main() -> ExitCode {
+    let words: Vec<String> = std::env::args().skip(1).collect();
+    let words: Vec<&str> = words.iter().map(String::as_str).collect();
+    let done = match words.as_slice() {
+        ["generate", seed, count] => generate_command(seed, count),
+        ["batch"] => print(&hand_written()),
+        ["answers"] => answers_command(),
+        ["compare", expected, actual, batch] => compare_command(expected, actual, batch),
+        ["tally", answers, batch] => tally_command(answers, batch),
+        ["picture", seed, kind] => picture_command(seed, kind),
+        _ => Err(USAGE.to_string()),
+    };
+    done.unwrap_or_else(|message| {
+        eprintln!("{message}");
+        ExitCode::from(2)
+    })
+}
+
+/// Writes bytes to standard output.
+fn print(bytes: &[u8]) -> Result<ExitCode, String> {
+    std::io::stdout().write_all(bytes).map_err(|error| error.to_string())?;
+    Ok(ExitCode::SUCCESS)
+}
+
+/// Reads a file as text.
+fn read_text(path: &str) -> Result<String, String> {
+    std::fs::read_to_string(path).map_err(|error| format!("{path}: {error}"))
+}
+
+/// Reads a file as bytes.
+fn read_bytes(path: &str) -> Result<Vec<u8>, String> {
+    std::fs::read(path).map_err(|error| format!("{path}: {error}"))
+}
+
+/// A decimal number out of the command line.
+fn number(word: &str) -> Result<u64, String> {
+    word.parse().map_err(|_| format!("{word} is no number"))
+}
+
+/// `generate SEED COUNT`
+fn generate_command(seed: &str, count: &str) -> Result<ExitCode, String> {
+    print(&generate(number(seed)?, number(count)?))
+}
+
+/// `answers`
+fn answers_command() -> Result<ExitCode, String> {
+    let mut batch = Vec::new();
+    std::io::stdin().read_to_end(&mut batch).map_err(|error| error.to_string())?;
+    let mut text = answers(&batch)?.join("\n");
+    if !text.is_empty() {
+        text.push('\n');
+    }
+    print(text.as_bytes())
+}
+
+/// `compare EXPECTED ACTUAL BATCH`
+fn compare_command(expected: &str, actual: &str, batch: &str) -> Result<ExitCode, String> {
+    let batch = read_bytes(batch)?;
+    let found = differences(&batch, &read_text(expected)?, &read_text(actual)?, DIFFERENCES_SHOWN)?;
+    for (index, difference) in found.iter().enumerate() {
+        let file = format!("difference-{}.picture", index + 1);
+        std::fs::write(&file, &difference.picture).map_err(|error| error.to_string())?;
+        println!("picture  {file} ({} bytes)", difference.picture.len());
+        println!("call     {}", difference.call);
+        println!("expected {}", difference.expected);
+        println!("actual   {}", difference.actual);
+    }
+    if found.is_empty() {
+        println!("all answers agree");
+        return Ok(ExitCode::SUCCESS);
+    }
+    Ok(ExitCode::from(1))
+}
+
+/// `tally ANSWERS BATCH`
+fn tally_command(lines: &str, batch: &str) -> Result<ExitCode, String> {
+    let batch = read_bytes(batch)?;
+    let lines = read_text(lines)?;
+    let mut lines = lines.lines();
+    let mut counts: BTreeMap<String, u64> = BTreeMap::new();
+    for record in Records::of(&batch) {
+        let heading = match record? {
+            Record::Picture(_) => continue,
+            Record::Report => "report",
+            Record::Check => "check",
+            Record::Walk { kind: 0, .. } => "walk by ID",
+            Record::Walk { kind: 1, .. } => "walk by address",
+            Record::Walk { kind: 2, .. } => "walk of a configuration request",
+            Record::Walk { .. } => "walk of no kind",
+            Record::Claim { .. } => "claim",
+            Record::Conversion { .. } => "conversion",
+        };
+        let line = lines.next().ok_or("there are fewer answers than calls")?;
+        *counts.entry(format!("{heading}: {}", gist(heading, line))).or_default() += 1;
+    }
+    for (what, count) in counts {
+        println!("{count:8} {what}");
+    }
+    Ok(ExitCode::SUCCESS)
+}
+
+/// What is counted of an answer line: the first two words of a report, the number of a check, number,
+/// end and crossings of a walk, and all of the others.
+fn gist(heading: &str, line: &str) -> String {
+    let (first, rest) = line.split_once(' ').unwrap_or((line, ""));
+    match heading {
+        "report" => match first {
+            "refused" => format!("refused {}", rest.split(' ').next().unwrap_or("")),
+            _ => "clear".to_string(),
+        },
+        "check" => format!("number {first:>2}"),
+        _ if heading.starts_with("walk") => {
+            format!("number {first:>2} end {} crossings {}", &rest[2..4], &rest[8..10])
+        }
+        _ => line.to_string(),
+    }
+}
+
+/// `picture SEED KIND`
+fn picture_command(seed: &str, kind: &str) -> Result<ExitCode, String> {
+    match sample(kind, number(seed)?) {
+        Some(draft) => print(&draft.bytes()),
+        None => Err(format!("the kinds are {}", SAMPLE_NAMES.join(", "))),
+    }
+}

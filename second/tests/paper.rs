@@ -1,0 +1,119 @@
+//! The paper's own examples, the decisions on open points, and the cases that a first build gets
+//! wrong: each hand-written call gives the answer written beside it.
+
+use second::batch::answer;
+use second::cases::{all_cases, one_port_picture, Case};
+use second::judge::Judge;
+use second::picture::Vector;
+
+/// Every call of a case gives the answer written beside it.
+fn holds(case: &Case) {
+    let judge = Judge::new(&case.picture);
+    for (call, expected) in &case.calls {
+        assert_eq!(answer(&judge, call).as_ref(), Some(expected), "{}: {call}", case.name);
+    }
+}
+
+/// All cases under a heading hold, and there is one.
+fn heading_holds(heading: &str) {
+    let is_under = |case: &Case| case.name.split(':').next() == Some(heading);
+    let cases: Vec<Case> = all_cases().into_iter().filter(is_under).collect();
+    assert!(!cases.is_empty(), "no case under {heading}");
+    cases.iter().for_each(holds);
+}
+
+/// One test for each heading.
+macro_rules! headings {
+    ($($test:ident: $heading:literal,)*) => {
+        $(#[test]
+        fn $test() {
+            heading_holds($heading);
+        })*
+    };
+}
+
+headings! {
+    the_one_port_picture: "one port",
+    c1: "C1",
+    c2: "C2",
+    c3: "C3",
+    c4: "C4",
+    c5: "C5",
+    c6: "C6",
+    c7: "C7",
+    c8: "C8",
+    c9: "C9",
+    c10: "C10",
+    c11: "C11",
+    c12: "C12",
+    decision_1: "decision 1",
+    decision_2: "decision 2",
+    decision_3: "decision 3",
+    decision_4: "decision 4",
+    decision_5: "decision 5",
+    decision_6: "decision 6",
+    decision_7: "decision 7",
+    decision_8: "decision 8",
+    decision_9: "decision 9",
+    decision_10: "decision 10",
+    decision_12: "decision 12",
+    decision_13: "decision 13",
+    decision_14: "decision 14",
+    decision_15: "decision 15",
+    decision_16: "decision 16",
+    decision_17: "decision 17",
+    decision_18: "decision 18",
+    decision_19: "decision 19",
+    decision_20: "decision 20",
+    decision_21: "decision 21",
+    decision_22: "decision 22",
+    decision_23: "decision 23",
+    decision_24: "decision 24",
+    decision_25: "decision 25",
+    decision_26: "decision 26",
+    decision_27: "decision 27",
+    what_a_first_build_gets_wrong: "first build",
+}
+
+/// The entry of a target in a vector of 256 entries.
+fn entry(start: u64, granularity: u64, target: u64) -> Option<u64> {
+    Vector { start, granularity, size: 256, bytes: vec![0; 32] }.entry_of(target)
+}
+
+#[test]
+fn c1_to_c7_as_entries() {
+    assert_eq!(entry(0, 8, 2_047), Some(255));
+    assert_eq!(entry(0, 8, 2_048), None);
+    assert_eq!(entry(32 * 8, 64, 255), None);
+    assert_eq!(entry(32 * 8, 64, 319), Some(0));
+    assert_eq!(entry(32 * 8, 64, 320), Some(1));
+    assert_eq!(entry(0x8000_0000, 16 << 20, 0xFFFF_FFFF), Some(127));
+    assert_eq!(entry(1 << 32, 256 << 20, 0x1_1000_0000), Some(1));
+}
+
+#[test]
+fn a_short_buffer_is_17_before_all_else_and_untouched() {
+    for picture in [one_port_picture(), Vec::new()] {
+        let judge = Judge::new(&picture);
+        let mut buffer = [0xAA; 39];
+        assert_eq!(judge.check_call(&mut buffer), 17);
+        assert_eq!(judge.walk_call(&mut buffer, 3, 254, u64::MAX), 17);
+        assert_eq!(buffer, [0xAA; 39]);
+    }
+}
+
+#[test]
+fn a_long_buffer_keeps_what_comes_after_40_bytes() {
+    let judge = Judge::new(&one_port_picture());
+    let mut buffer = [0xAA; 64];
+    assert_eq!(judge.check_call(&mut buffer), 0);
+    assert_eq!(buffer[..8], [0, 0, 255, 255, 0, 0, 0, 0]);
+    assert_eq!(buffer[8..40], [255; 32]);
+    assert_eq!(buffer[40..], [0xAA; 24]);
+}
+
+#[test]
+fn the_report_ends_with_a_newline() {
+    assert_eq!(Judge::new(&one_port_picture()).report(), "ports 1\nclear\n");
+    assert_eq!(Judge::new(&[]).report(), "refused 1\n");
+}
