@@ -1,1 +1,3 @@
-pub mod Laws
+pub mod Buffers
+pub mod WalkCalls
+pub mod CheckCalls

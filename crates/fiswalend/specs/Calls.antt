@@ -1,7 +1,7 @@
 -- 01, "Numbers given back": what the controller's calls return, and the answer buffer after them. "For 17 the buffer is untouched. Else
 -- 40 bytes are written and the rest kept".
 use Prim.Native.Nat.{ℕ}
-use mathlib.Core.Bool.{Bool, true, false}
+use mathlib.Core.Bool.{Bool, true, false, cond}
 use mathlib.Core.List.{List, _++_}
 use mathlib.Core.Path.{_≡_}
 use lib.Dec.{ltb}
@@ -14,6 +14,13 @@ use Rattle.fiswalend.specs.Walked.{walkBytes}
 -- 17: "answer buffer under 40 bytes"
 unfoldable pub tooShort : List ℕ → Bool
 tooShort buffer = ltb (length buffer) 40
+
+-- the number that a call returns, and the buffer after it, where it has a number and 40 bytes to give
+unfoldable pub returned : List ℕ → ℕ → ℕ
+returned before number = cond (tooShort before) 17 number
+
+unfoldable pub written : List ℕ → List ℕ → List ℕ
+written before forty = cond (tooShort before) before (forty ++ drop 40 before)
 
 -- the walk call's number, and the buffer after it, for the buffer before it
 abbrev pub WalkLeaves : Bool → List ℕ → ℕ → ℕ → ℕ → List ℕ → ℕ → List ℕ → Type 0

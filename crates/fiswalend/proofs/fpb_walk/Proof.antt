@@ -1,6 +1,6 @@
 use mathlib.Core.Path.{refl}
 use native.Mathlib.Omega.{arith}
-use Rattle.fiswalend.proofs.Laws.{crossings-few, leaves-17, leaves-40}
+use Rattle.fiswalend.proofs.WalkCalls.{crossings-few, leaves-17, leaves-40}
 use borrow.Author.Needs.{needs}
 use Rattle.fiswalend.proofs.fpb_walk.Statement.{statement}
 use Rattle.fiswalend.proofs.fpb_walk.Tie as tie

@@ -1,13 +1,11 @@
--- What the walk call leaves is as its definition says. Assumes nothing.
+-- What the walk call returns and leaves is as its definition says, and is all that it may. Assumes nothing.
 use Prim.Native.Nat.{ℕ, _<_, _≤_}
 use mathlib.Core.Bool.{Bool, true, false}
 use mathlib.Core.List.{List, _++_}
 use mathlib.Core.Path.{_≡_, refl, sym, ap, subst, _∙_}
 use native.Mathlib.Nat.{le-trans}
 use native.Mathlib.Omega.{arith}
-use borrow.Author.Tests.{lt-ltb, le-ltb}
 use lib.ListN.{length, take, drop, getD}
-use lib.Seq.{take-all}
 use Rattle.chassis.specs.Walk.{comeTo}
 use Rattle.chassis.proofs.Steps.{left-most}
 use Rattle.chassis.proofs.Walks.{walk-short}
@@ -28,6 +26,7 @@ use Rattle.judge.proofs.Walks.{walk-only, sane-read, within-start}
 use Rattle.fiswalend.specs.Refusals.{refusalHead}
 use Rattle.fiswalend.specs.Walked.{endHead, outcomeHead, walkHead, walkBytes}
 use Rattle.fiswalend.specs.Calls.{tooShort, WalkLeaves, WalkCall}
+use Rattle.fiswalend.proofs.Buffers.{under-40, has-40, copied-40}
 
 -- a walk crosses at most 32 ports, so that the count fits its byte
 module _ (s : List ℕ) (kind start target : ℕ) (a : WalkAnswer) where
@@ -47,10 +46,6 @@ module _ (s : List ℕ) (kind start target : ℕ) (a : WalkAnswer) where
       go (NotRead r) read gives = rw gives (omega arith)
       go (Read h) read gives = asked-short h read (askedWrongly (treeOf s) kind start target) refl gives
 
--- what a copy of 40 bytes leaves
-written : (forty before : List ℕ) → length forty ≡ 40 → take (length forty) forty ++ drop (length forty) before ≡ forty ++ drop 40 before
-written forty before whole = rw (whole, take-all 40 forty (omega arith))
-
 -- the first byte is the number
 pub first-byte : (a : WalkAnswer) → getD (walkBytes a) 0 0 ≡ outcomeNumber (a .outcome)
 unfolding walkBytes walkHead answerBytes headBytes outcomeHead refusalHead endHead
@@ -66,16 +61,14 @@ module _ (s : List ℕ) (kind start target : ℕ) (before : List ℕ) (number : 
   leaves short e w = subst (λ (b : Bool). WalkLeaves b s kind start target before number after) (sym e) w
 
   pub leaves-17 : length before < 40 → number ≡ 17 → after ≡ before → WalkCall s kind start target before number after
-  unfolding tooShort
-  leaves-17 l is-17 untouched = leaves true (lt-ltb (length before) 40 l) (is-17, untouched)
+  leaves-17 l is-17 untouched = leaves true (under-40 before l) (is-17, untouched)
 
   pub leaves-40 : (forty : List ℕ) (a : WalkAnswer) → 40 ≤ length before → WalkGives s kind start target a
       → forty ≡ walkBytes a → length forty ≡ 40 → number ≡ getD forty 0 0
       → after ≡ take (length forty) forty ++ drop (length forty) before → WalkCall s kind start target before number after
-  unfolding tooShort
   leaves-40 forty a l gives is whole first copied =
-      leaves false (le-ltb (length before) 40 l)
-      (a, gives, first ∙ ap (λ (bytes : List ℕ). getD bytes 0 0) is ∙ first-byte a, copied ∙ written forty before whole ∙ ap (λ (bytes : List ℕ). bytes ++ drop 40 before) is)
+      leaves false (has-40 before l)
+      (a, gives, first ∙ ap (λ (bytes : List ℕ). getD bytes 0 0) is ∙ first-byte a, copied ∙ copied-40 forty before whole ∙ ap (λ (bytes : List ℕ). bytes ++ drop 40 before) is)
 
 -- the call has one number and leaves one buffer
 pub walk-call-only : (s : List ℕ) (kind start target : ℕ) (before : List ℕ) (m n : ℕ) (x y : List ℕ)
