@@ -55,7 +55,8 @@ demand-1-buffer s before =
     record {
       check = λ short. (rw (under-40 before short), rw (under-40 before short));
       walk = λ short kind start target number after call. untouched kind start target number after (under-40 before short) call;
-      only = λ kind start target m n x y. walk-call-only s kind start target before m n x y }
+      only = λ kind start target m n x y. walk-call-only s kind start target before m n x y;
+    }
   where
     untouched : (kind start target number : ℕ) (after : List ℕ) → tooShort before ≡ true → WalkCall s kind start target before number after
         → (number ≡ 17) × (after ≡ before)
