@@ -15,12 +15,16 @@ pub fn print_report(picture: &[u8]) {
     print_line(texts::report_text(picture, judge::check(picture), b'/'));
 }
 
+fn with_byte(text: Text, b: u8) -> Text {
+    text.with_hex(b as u64, 2)
+}
+
 // The number that a call returned, and the 40 bytes.
 fn print_call(number: u32, bytes: &[u8; 40]) {
     let mut text = Text::new().with_decimal(number as u64).with(b" ");
     let mut i = 0;
     while i < 40 {
-        text = text.with_hex(bytes[i] as u64, 2);
+        text = with_byte(text, bytes[i]);
         i += 1;
     }
     print_line(text);

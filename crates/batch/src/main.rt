@@ -46,7 +46,7 @@ fn answer(picture: &[u8], letter: u8) -> bool {
     true
 }
 
-fn turn(buffer: &mut [u8], length: usize) -> Turn {
+fn take_record(buffer: &mut [u8], length: usize) -> Turn {
     let letter = fields::take_letter();
     if letter == b'P' {
         return Turn {
@@ -66,7 +66,7 @@ fn main() {
     let mut length: usize = 0;
     let mut left: u64 = 18446744073709551615;
     while 0 < left {
-        let next = turn(picture, length);
+        let next = take_record(picture, length);
         if next.over {
             return;
         }

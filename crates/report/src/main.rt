@@ -3,7 +3,9 @@
 use libc::STDIN_FILENO;
 
 fn print_lines(picture: &[u8]) {
-    texts::report_text(picture, judge::check(picture), b'\n').with(b"\n").print();
+    texts::report_text(picture, judge::check(picture), b'\n')
+        .with(b"\n")
+        .print();
 }
 
 // One byte more than a picture may have, so that a longer input shows.

@@ -24,16 +24,24 @@ fn of_target(of_id: u64, of_address: u64, t: Target) -> Text {
     let text = Text::new().with(b"refused ");
     match t {
         Target::Id(rid) => {
-            text.with_decimal(of_id).with(b" id ").with_hex(rid.0 as u64, 4).with(b" ports")
+            text.with_decimal(of_id)
+                .with(b" id ")
+                .with_hex(rid.0 as u64, 4)
+                .with(b" ports")
         }
         Target::Addr(a) => {
-            text.with_decimal(of_address).with(b" addr ").with_hex(a, 16).with(b" ports")
+            text.with_decimal(of_address)
+                .with(b" addr ")
+                .with_hex(a, 16)
+                .with(b" ports")
         }
     }
 }
 
 fn of_clear(picture: &[u8], end: u8) -> Text {
-    let text = Text::new().with(b"ports ").with_decimal(lent::u16_at(picture, 2) as u64);
+    let text = Text::new()
+        .with(b"ports ")
+        .with_decimal(lent::u16_at(picture, 2) as u64);
     text.with(&[end]).with(b"clear")
 }
 
