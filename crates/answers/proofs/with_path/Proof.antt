@@ -5,9 +5,6 @@ use borrow.Author.Needs.{needs}
 use Rattle.answers.proofs.Laws.{Filled, filled-none, filled-more, filled-all}
 use Rattle.answers.proofs.with_path.Statement.{statement}
 use Rattle.answers.proofs.with_path.Tie as tie
-use Rattle.answers.proofs.with_path.Reads as reads
-use Rattle.answers.proofs.with_path.Lts as lts
-use Rattle.answers.proofs.without_places.Reads as without-places-reads
 
 abbrev Inv-loop : tie.InvT-loop
 Inv-loop places out₀ i₀ out i = Filled out₀ out places i
@@ -15,39 +12,30 @@ Inv-loop places out₀ i₀ out i = Filled out₀ out places i
 abbrev μ-loop : tie.MeasureT-loop
 μ-loop places out₀ i₀ out i = 32 - i
 
--- src/lib.rt:38:19
 without-places-requires : tie.Need-without-places-requires Inv-loop μ-loop
 without-places-requires c κs = search needs
 
--- src/lib.rt:40:5
 loop-holds : tie.Need-loop-holds Inv-loop μ-loop
 loop-holds c = filled-none _ _ (c .without-places .ok .1 .0 .1)
 
--- src/lib.rt:41:17
 array-copy-out-p : tie.Need-array-copy-out-p Inv-loop μ-loop
 array-copy-out-p c = search needs
 
--- src/lib.rt:42:13
 add-out : tie.Need-add-out Inv-loop μ-loop
 add-out c = search needs
 
--- src/lib.rt:42:9
 array-write-out : tie.Need-array-write-out Inv-loop μ-loop
 array-write-out c = search needs
 
--- src/lib.rt:43:9
 add-i : tie.Need-add-i Inv-loop μ-loop
 add-i c = search needs
 
--- src/lib.rt:40:5
 loop-less : tie.Need-loop-less Inv-loop μ-loop
 loop-less c = search needs
 
--- src/lib.rt:40:5
 loop-again : tie.Need-loop-again Inv-loop μ-loop
 loop-again c = filled-more _ _ _ (c .before .before .before .before .good .1 .0 .1 .0 .1) (c .before .before .loop .i) _ (omega arith) (c .before .before .loop .inv)
 
--- src/lib.rt:35:1
 returns : tie.Need-returns Inv-loop μ-loop
 returns c = let last : c .before .loop .i ≡ 32 = omega arith in
     filled-all _ _ _ (c .before .before .before .good .1 .0 .1 .0 .1) _ (c .before .before .without-places .ensures) (subst (Filled _ _ _) last (c .before .loop .inv))

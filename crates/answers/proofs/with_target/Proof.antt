@@ -2,79 +2,58 @@ use Rattle.answers.specs.Answers.{headBytes, answerBytes, noPlaces, targ
 use borrow.Author.Needs.{needs}
 use Rattle.answers.proofs.with_target.Statement.{statement}
 use Rattle.answers.proofs.with_target.Tie as tie
-use Rattle.answers.proofs.with_target.Reads as reads
-use Rattle.answers.proofs.with_target.Lts as lts
-use Rattle.answers.proofs.without_places.Reads as without-places-reads
 
--- src/lib.rt:52:19
 without-places-requires : tie.Need-without-places-requires
 without-places-requires c κs = search needs
 
--- src/lib.rt:53:14
 cast-out : tie.Need-cast-out
 cast-out c = search needs
 
--- src/lib.rt:53:5
 array-write-out : tie.Need-array-write-out
 array-write-out c = search needs
 
--- src/lib.rt:54:14
 cast-out-2 : tie.Need-cast-out-2
 cast-out-2 c = search needs
 
--- src/lib.rt:54:5
 array-write-out-2 : tie.Need-array-write-out-2
 array-write-out-2 c = search needs
 
--- src/lib.rt:55:15
 cast-out-3 : tie.Need-cast-out-3
 cast-out-3 c = search needs
 
--- src/lib.rt:55:5
 array-write-out-3 : tie.Need-array-write-out-3
 array-write-out-3 c = search needs
 
--- src/lib.rt:56:15
 cast-out-4 : tie.Need-cast-out-4
 cast-out-4 c = search needs
 
--- src/lib.rt:56:5
 array-write-out-4 : tie.Need-array-write-out-4
 array-write-out-4 c = search needs
 
--- src/lib.rt:57:15
 cast-out-5 : tie.Need-cast-out-5
 cast-out-5 c = search needs
 
--- src/lib.rt:57:5
 array-write-out-5 : tie.Need-array-write-out-5
 array-write-out-5 c = search needs
 
--- src/lib.rt:58:15
 cast-out-6 : tie.Need-cast-out-6
 cast-out-6 c = search needs
 
--- src/lib.rt:58:5
 array-write-out-6 : tie.Need-array-write-out-6
 array-write-out-6 c = search needs
 
--- src/lib.rt:59:15
 cast-out-7 : tie.Need-cast-out-7
 cast-out-7 c = search needs
 
--- src/lib.rt:59:5
 array-write-out-7 : tie.Need-array-write-out-7
 array-write-out-7 c = search needs
 
--- src/lib.rt:60:15
 cast-out-8 : tie.Need-cast-out-8
 cast-out-8 c = search needs
 
--- src/lib.rt:60:5
 array-write-out-8 : tie.Need-array-write-out-8
 array-write-out-8 c = search needs
 
--- src/lib.rt:49:1
 returns : tie.Need-returns
 unfolding answerBytes headBytes noPlaces targetPlaces
 returns c = rw (c .without-places .ensures)

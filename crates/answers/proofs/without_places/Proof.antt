@@ -3,42 +3,31 @@ use mathlib.Core.Path.{refl}
 use borrow.Author.Needs.{needs}
 use Rattle.answers.proofs.without_places.Statement.{statement}
 use Rattle.answers.proofs.without_places.Tie as tie
-use Rattle.answers.proofs.without_places.Reads as reads
-use Rattle.answers.proofs.without_places.Lts as lts
 
--- src/lib.rt:23:5
 array-write-out : tie.Need-array-write-out
 array-write-out c = search needs
 
--- src/lib.rt:24:5
 array-write-out-2 : tie.Need-array-write-out-2
 array-write-out-2 c = search needs
 
--- src/lib.rt:25:5
 array-write-out-3 : tie.Need-array-write-out-3
 array-write-out-3 c = search needs
 
--- src/lib.rt:26:5
 array-write-out-4 : tie.Need-array-write-out-4
 array-write-out-4 c = search needs
 
--- src/lib.rt:27:5
 array-write-out-5 : tie.Need-array-write-out-5
 array-write-out-5 c = search needs
 
--- src/lib.rt:28:5
 array-write-out-6 : tie.Need-array-write-out-6
 array-write-out-6 c = search needs
 
--- src/lib.rt:29:5
 array-write-out-7 : tie.Need-array-write-out-7
 array-write-out-7 c = search needs
 
--- src/lib.rt:30:5
 array-write-out-8 : tie.Need-array-write-out-8
 array-write-out-8 c = search needs
 
--- src/lib.rt:17:1
 returns : tie.Need-returns
 unfolding answerBytes headBytes noPlaces
 returns c = refl

@@ -9,51 +9,39 @@ use Rattle.batch.proofs.fields.skip.Reads as skip-reads
 use Rattle.batch.proofs.fields.take_u32.Reads as take-u32-reads
 use Rattle.io.proofs.read_full.Reads as read-full-reads
 
--- src/main.rt:16:13
 take-u32-requires : tie.Need-take-u32-requires
 take-u32-requires c κs = search needs
 
--- src/main.rt:16:13
 cast-n : tie.Need-cast-n
 cast-n c = search needs
 
--- src/main.rt:18:44
 slice-relend-prefix-read-full : tie.Need-slice-relend-prefix-read-full
 slice-relend-prefix-read-full c = search needs
 
--- src/main.rt:18:44
 slice-aggregate-read-full : tie.Need-slice-aggregate-read-full
 slice-aggregate-read-full c = sym (length-take-le _ _ (c .before .if1 .taken))
 
--- src/main.rt:18:9
 read-full-requires : tie.Need-read-full-requires
 read-full-requires c κs = search needs
 
--- src/main.rt:18:9
 same-length : tie.Need-same-length
 same-length c = search needs
 
--- src/main.rt:18:9
 returns : tie.Need-returns
 returns c = search needs
 
--- src/main.rt:20:9
 read-full-requires-2 : tie.Need-read-full-requires-2
 read-full-requires-2 c κs = search needs
 
--- src/main.rt:21:18
 sub-skip : tie.Need-sub-skip
 sub-skip c = search needs
 
--- src/main.rt:21:5
 skip-requires : tie.Need-skip-requires
 skip-requires c κs = search needs
 
--- src/main.rt:15:1
 same-length-2 : tie.Need-same-length-2
 same-length-2 c = search needs
 
--- src/main.rt:15:1
 returns-2 : tie.Need-returns-2
 returns-2 c = search needs
 

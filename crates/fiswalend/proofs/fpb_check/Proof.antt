@@ -4,45 +4,31 @@ use Rattle.fiswalend.proofs.CheckCalls.{left-17, left-40}
 use borrow.Author.Needs.{needs}
 use Rattle.fiswalend.proofs.fpb_check.Statement.{statement}
 use Rattle.fiswalend.proofs.fpb_check.Tie as tie
-use Rattle.fiswalend.proofs.fpb_check.Reads as reads
-use Rattle.fiswalend.proofs.fpb_check.Lts as lts
-use Rattle.bytes.proofs.copy.Reads as copy-reads
-use Rattle.fiswalend.proofs.checked.check_bytes.Reads as check-bytes-reads
-use Rattle.judge.proofs.check.Reads as check-reads
 
--- src/lib.rt:19:9
 returns : tie.Need-returns
 returns c = left-17 _ _ (c .if1 .taken)
 
--- src/lib.rt:21:38
 check-requires : tie.Need-check-requires
 check-requires c κs = search needs
 
--- src/lib.rt:21:17
 check-bytes-requires : tie.Need-check-bytes-requires
 check-bytes-requires c κs = search needs
 
--- src/lib.rt:22:17
 slice-aggregate-copy : tie.Need-slice-aggregate-copy
 slice-aggregate-copy c = search needs
 
--- src/lib.rt:22:5
 copy-requires : tie.Need-copy-requires
 copy-requires c κs = search needs
 
--- src/lib.rt:23:5
 array-read-result : tie.Need-array-read-result
 array-read-result c = search needs
 
--- src/lib.rt:23:5
 cast-result : tie.Need-cast-result
 cast-result c = search needs
 
--- src/lib.rt:13:1
 same-length : tie.Need-same-length
 same-length c = search needs
 
--- src/lib.rt:13:1
 returns-2 : tie.Need-returns-2
 returns-2 c = left-40 _ _ _ (c .before .before .before .before .before .before .before .if1 .left) (c .before .before .before .before .before .check-bytes .ensures ∙ ap checkBytes (c .before .before .before .before .before .before .check .ensures)) (c .before .before .before .before .before .check-bytes .ok .1 .0 .1) (c .before .before .copy .ensures .1)
 

@@ -12,27 +12,21 @@ Inv-loop n i₀ i = Unit {0}
 abbrev μ-loop : tie.MeasureT-loop
 μ-loop n i₀ i = n - i
 
--- src/fields.rt:25:5
 loop-holds : tie.Need-loop-holds Inv-loop μ-loop
 loop-holds c = search needs
 
--- src/fields.rt:26:9
 take-letter-requires : tie.Need-take-letter-requires Inv-loop μ-loop
 take-letter-requires c κs = search needs
 
--- src/fields.rt:27:9
 add-i : tie.Need-add-i Inv-loop μ-loop
 add-i c = search needs
 
--- src/fields.rt:25:5
 loop-less : tie.Need-loop-less Inv-loop μ-loop
 loop-less c = search needs
 
--- src/fields.rt:25:5
 loop-again : tie.Need-loop-again Inv-loop μ-loop
 loop-again c = search needs
 
--- src/fields.rt:23:1
 returns : tie.Need-returns Inv-loop μ-loop
 returns c = search needs
 

@@ -16,51 +16,39 @@ Inv-loop number bytes text₀ i₀ text i = Unit {0}
 abbrev μ-loop : tie.MeasureT-loop
 μ-loop number bytes text₀ i₀ text i = 40 - i
 
--- src/lines.rt:24:20
 new-requires : tie.Need-new-requires Inv-loop μ-loop
 new-requires c κs = search needs
 
--- src/lines.rt:24:20
 with-decimal-requires : tie.Need-with-decimal-requires Inv-loop μ-loop
 with-decimal-requires c κs = search needs
 
--- src/lines.rt:24:65
 slice-aggregate-with : tie.Need-slice-aggregate-with Inv-loop μ-loop
 slice-aggregate-with c = search needs
 
--- src/lines.rt:24:9
 with-requires : tie.Need-with-requires Inv-loop μ-loop
 with-requires c κs = search needs
 
--- src/lines.rt:26:5
 loop-holds : tie.Need-loop-holds Inv-loop μ-loop
 loop-holds c = search needs
 
--- src/lines.rt:27:32
 element-copy-out-with-byte : tie.Need-element-copy-out-with-byte Inv-loop μ-loop
 element-copy-out-with-byte c = search needs
 
--- src/lines.rt:27:9
 with-byte-requires : tie.Need-with-byte-requires Inv-loop μ-loop
 with-byte-requires c κs = search needs
 
--- src/lines.rt:28:9
 add-i : tie.Need-add-i Inv-loop μ-loop
 add-i c = search needs
 
--- src/lines.rt:26:5
 loop-less : tie.Need-loop-less Inv-loop μ-loop
 loop-less c = search needs
 
--- src/lines.rt:26:5
 loop-again : tie.Need-loop-again Inv-loop μ-loop
 loop-again c = search needs
 
--- src/lines.rt:30:5
 print-line-requires : tie.Need-print-line-requires Inv-loop μ-loop
 print-line-requires c κs = search needs
 
--- src/lines.rt:23:1
 returns : tie.Need-returns Inv-loop μ-loop
 returns c = search needs
 

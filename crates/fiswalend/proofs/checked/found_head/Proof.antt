@@ -2,10 +2,7 @@ use Rattle.fiswalend.specs.Checked.{foundHead}
 use mathlib.Core.Path.{refl}
 use Rattle.fiswalend.proofs.checked.found_head.Statement.{statement}
 use Rattle.fiswalend.proofs.checked.found_head.Tie as tie
-use Rattle.fiswalend.proofs.checked.found_head.Reads as reads
-use Rattle.fiswalend.proofs.checked.found_head.Lts as lts
 
--- src/checked.rt:34:1
 returns : tie.Need-returns
 unfolding foundHead
 returns c = refl

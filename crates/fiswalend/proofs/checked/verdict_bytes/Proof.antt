@@ -2,94 +2,67 @@ use Rattle.fiswalend.specs.Checked.{verdictBytes}
 use borrow.Author.Needs.{needs}
 use Rattle.fiswalend.proofs.checked.verdict_bytes.Statement.{statement}
 use Rattle.fiswalend.proofs.checked.verdict_bytes.Tie as tie
-use Rattle.fiswalend.proofs.checked.verdict_bytes.Reads as reads
-use Rattle.fiswalend.proofs.checked.verdict_bytes.Lts as lts
-use Rattle.answers.proofs.with_target.Reads as with-target-reads
-use Rattle.answers.proofs.without_places.Reads as without-places-reads
-use Rattle.fiswalend.proofs.checked.by_target.Reads as by-target-reads
-use Rattle.fiswalend.proofs.checked.found_head.Reads as found-head-reads
-use Rattle.fiswalend.proofs.checked.target_number.Reads as target-number-reads
 
--- src/checked.rt:51:56
 enum-told : tie.Need-enum-told
 enum-told c = search needs
 
--- src/checked.rt:51:42
 found-head-requires : tie.Need-found-head-requires
 found-head-requires c κs = search needs
 
--- src/checked.rt:51:27
 without-places-requires : tie.Need-without-places-requires
 without-places-requires c κs = search needs
 
--- src/checked.rt:52:25
 enum-known-v : tie.Need-enum-known-v
 enum-known-v c = search needs
 
--- src/checked.rt:53:36
 by-target-requires : tie.Need-by-target-requires
 by-target-requires c κs = search needs
 
--- src/checked.rt:53:25
 found-head-requires-2 : tie.Need-found-head-requires-2
 found-head-requires-2 c κs = search needs
 
--- src/checked.rt:53:65
 target-number-requires : tie.Need-target-number-requires
 target-number-requires c κs = search needs
 
--- src/checked.rt:53:13
 with-target-requires : tie.Need-with-target-requires
 with-target-requires c κs = search needs
 
--- src/checked.rt:55:24
 enum-known-v-2 : tie.Need-enum-known-v-2
 enum-known-v-2 c = search needs
 
--- src/checked.rt:56:36
 by-target-requires-2 : tie.Need-by-target-requires-2
 by-target-requires-2 c κs = search needs
 
--- src/checked.rt:56:25
 found-head-requires-3 : tie.Need-found-head-requires-3
 found-head-requires-3 c κs = search needs
 
--- src/checked.rt:56:75
 target-number-requires-2 : tie.Need-target-number-requires-2
 target-number-requires-2 c κs = search needs
 
--- src/checked.rt:56:13
 with-target-requires-2 : tie.Need-with-target-requires-2
 with-target-requires-2 c κs = search needs
 
--- src/checked.rt:58:23
 enum-known-v-3 : tie.Need-enum-known-v-3
 enum-known-v-3 c = search needs
 
--- src/checked.rt:58:44
 found-head-requires-4 : tie.Need-found-head-requires-4
 found-head-requires-4 c κs = search needs
 
--- src/checked.rt:58:29
 without-places-requires-2 : tie.Need-without-places-requires-2
 without-places-requires-2 c κs = search needs
 
--- src/checked.rt:47:1
 returns : tie.Need-returns
 unfolding verdictBytes
 returns c = rw (c .before .before .enum-told .given .1, ← c .before .found-head .ensures) (c .without-places .ensures)
 
--- src/checked.rt:47:1
 returns-2 : tie.Need-returns-2
 unfolding verdictBytes
 returns-2 c = rw (c .before .before .before .before .before .v .given .1, ← c .before .before .before .by-target .ensures, ← c .before .before .found-head2 .ensures, ← c .before .target-number .ensures) (c .with-target .ensures)
 
--- src/checked.rt:47:1
 returns-3 : tie.Need-returns-3
 unfolding verdictBytes
 returns-3 c = rw (c .before .before .before .before .before .v2 .given .1, ← c .before .before .before .by-target2 .ensures, ← c .before .before .found-head3 .ensures, ← c .before .target-number2 .ensures) (c .with-target2 .ensures)
 
--- src/checked.rt:47:1
 returns-4 : tie.Need-returns-4
 unfolding verdictBytes
 returns-4 c = rw (c .before .before .before .v3 .given .1, ← c .before .found-head4 .ensures) (c .without-places2 .ensures)

@@ -2,10 +2,7 @@ use Rattle.fiswalend.specs.Refusals.{refusalHead}
 use mathlib.Core.Path.{refl}
 use Rattle.fiswalend.proofs.refusals.refusal_head.Statement.{statement}
 use Rattle.fiswalend.proofs.refusals.refusal_head.Tie as tie
-use Rattle.fiswalend.proofs.refusals.refusal_head.Reads as reads
-use Rattle.fiswalend.proofs.refusals.refusal_head.Lts as lts
 
--- src/refusals.rt:8:1
 returns : tie.Need-returns
 unfolding refusalHead
 returns c = refl

@@ -2,71 +2,53 @@ use Rattle.fiswalend.specs.Walked.{endHead}
 use borrow.Author.Needs.{needs}
 use Rattle.fiswalend.proofs.walked.end_head.Statement.{statement}
 use Rattle.fiswalend.proofs.walked.end_head.Tie as tie
-use Rattle.fiswalend.proofs.walked.end_head.Reads as reads
-use Rattle.fiswalend.proofs.walked.end_head.Lts as lts
-use Rattle.fiswalend.proofs.walked.head.Reads as head-reads
 
--- src/walked.rt:31:21
 enum-known-e : tie.Need-enum-known-e
 enum-known-e c = search needs
 
--- src/walked.rt:31:37
 head-requires : tie.Need-head-requires
 head-requires c κs = search needs
 
--- src/walked.rt:32:23
 enum-known-e-2 : tie.Need-enum-known-e-2
 enum-known-e-2 c = search needs
 
--- src/walked.rt:32:29
 head-requires-2 : tie.Need-head-requires-2
 head-requires-2 c κs = search needs
 
--- src/walked.rt:33:30
 enum-told : tie.Need-enum-told
 enum-told c = search needs
 
--- src/walked.rt:33:22
 head-requires-3 : tie.Need-head-requires-3
 head-requires-3 c κs = search needs
 
--- src/walked.rt:34:26
 enum-known-e-3 : tie.Need-enum-known-e-3
 enum-known-e-3 c = search needs
 
--- src/walked.rt:34:32
 head-requires-4 : tie.Need-head-requires-4
 head-requires-4 c κs = search needs
 
--- src/walked.rt:35:22
 enum-known-e-4 : tie.Need-enum-known-e-4
 enum-known-e-4 c = search needs
 
--- src/walked.rt:35:31
 head-requires-5 : tie.Need-head-requires-5
 head-requires-5 c κs = search needs
 
--- src/walked.rt:27:1
 returns : tie.Need-returns
 unfolding endHead
 returns c = rw (c .before .before .e .given .1) (c .head .ensures)
 
--- src/walked.rt:27:1
 returns-2 : tie.Need-returns-2
 unfolding endHead
 returns-2 c = rw (c .before .before .e2 .given .1) (c .head2 .ensures)
 
--- src/walked.rt:27:1
 returns-3 : tie.Need-returns-3
 unfolding endHead
 returns-3 c = rw (c .before .enum-told .given .1) (c .head3 .ensures)
 
--- src/walked.rt:27:1
 returns-4 : tie.Need-returns-4
 unfolding endHead
 returns-4 c = rw (c .before .before .e3 .given .1) (c .head4 .ensures)
 
--- src/walked.rt:27:1
 returns-5 : tie.Need-returns-5
 unfolding endHead
 returns-5 c = rw (c .before .before .e4 .given .1) (c .head5 .ensures)

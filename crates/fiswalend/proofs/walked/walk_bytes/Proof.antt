@@ -2,24 +2,16 @@ use Rattle.fiswalend.specs.Walked.{walkHead, walkBytes}
 use borrow.Author.Needs.{needs}
 use Rattle.fiswalend.proofs.walked.walk_bytes.Statement.{statement}
 use Rattle.fiswalend.proofs.walked.walk_bytes.Tie as tie
-use Rattle.fiswalend.proofs.walked.walk_bytes.Reads as reads
-use Rattle.fiswalend.proofs.walked.walk_bytes.Lts as lts
-use Rattle.answers.proofs.with_path.Reads as with-path-reads
-use Rattle.fiswalend.proofs.walked.outcome_head.Reads as outcome-head-reads
 
--- src/walked.rt:55:21
 cast-crossings : tie.Need-cast-crossings
 cast-crossings c = search needs
 
--- src/walked.rt:57:24
 outcome-head-requires : tie.Need-outcome-head-requires
 outcome-head-requires c κs = search needs
 
--- src/walked.rt:57:5
 with-path-requires : tie.Need-with-path-requires
 with-path-requires c κs = search needs
 
--- src/walked.rt:49:1
 returns : tie.Need-returns
 unfolding walkBytes walkHead
 returns c = rw (← c .before .outcome-head .ensures) (c .with-path .ensures)

@@ -13,31 +13,24 @@ Inv-loop more bytes₀ at₀ i₀ bytes at i = Unit {0}
 abbrev μ-loop : tie.MeasureT-loop
 μ-loop more bytes₀ at₀ i₀ bytes at i = length more - i
 
--- src/lib.rt:34:9
 loop-holds : tie.Need-loop-holds Inv-loop μ-loop
 loop-holds c = search needs
 
--- src/lib.rt:35:38
 shared-slice-read-put : tie.Need-shared-slice-read-put Inv-loop μ-loop
 shared-slice-read-put c = search needs
 
--- src/lib.rt:35:13
 put-requires : tie.Need-put-requires Inv-loop μ-loop
 put-requires c κs = search needs
 
--- src/lib.rt:36:13
 add-i : tie.Need-add-i Inv-loop μ-loop
 add-i c = search needs
 
--- src/lib.rt:34:9
 loop-less : tie.Need-loop-less Inv-loop μ-loop
 loop-less c = search needs
 
--- src/lib.rt:34:9
 loop-again : tie.Need-loop-again Inv-loop μ-loop
 loop-again c = search needs
 
--- src/lib.rt:30:5
 returns : tie.Need-returns Inv-loop μ-loop
 returns c = search needs
 

@@ -1,0 +1,141 @@
+-- Every number that a call gives is one of the table's. Assumes nothing.
+use Prim.Native.Nat.{ℕ}
+use mathlib.Core.Bool.{Bool, true, false, cond, _||_}
+use mathlib.Core.List.{List, [], _∷_, _++_}
+use mathlib.Core.Path.{_≡_, refl, sym, ap, subst, _∙_}
+use native.Mathlib.Omega.{arith}
+use lib.ListN.{length}
+use lib.Dec.{eqb, ltb}
+use Rattle.ids.specs.declared.Rid.{Rid}
+use Rattle.ids.specs.declared.Target.{Target}
+use Rattle.ids.specs.declared.Target.the-variants.{Id, Addr}
+use Rattle.least.specs.declared.Found.{Found}
+use Rattle.least.specs.declared.Found.the-variants.{At, Nothing}
+use Rattle.least.specs.Least.{firstIn}
+use Rattle.chassis.specs.declared.Verdict.{Verdict}
+use Rattle.chassis.specs.declared.Verdict.the-variants.{Clear, Shared, Stray, Lost}
+use Rattle.chassis.specs.Check.{verdictNumber, verdictOf}
+use Rattle.trees.specs.Trees.{countOf}
+use Rattle.picture.specs.declared.Header.{Header}
+use Rattle.picture.specs.declared.Reading.{Reading}
+use Rattle.picture.specs.declared.Reading.the-variants.{Read, Refused}
+use Rattle.picture.specs.declared.Refusal.{Refusal}
+use Rattle.picture.specs.declared.Rule.the-variants.{Tree, Chain, Settings, Start}
+use Rattle.picture.specs.Header.{headerOf, lengthWrong, editionWrong, countWrong, totalWrong, offsetWrong}
+use Rattle.picture.specs.Reading.{breaks, misplacedIn, refusedIf, refusedAt, portsReading, reading}
+use Rattle.claims.specs.Claims.{chassisOf}
+use Rattle.judge.specs.declared.WalkAnswer.{WalkAnswer}
+use Rattle.judge.specs.Checking.{checkOf, checkAnswer, checkNumber}
+use Rattle.judge.specs.Claiming.{claimOf, claimAnswer, claimNumber}
+use Rattle.judge.specs.Converting.{convertOf, convertAnswer, convertNumber}
+use Rattle.judge.specs.Ends.{outcomeNumber}
+use Rattle.judge.specs.Refusals.{number16}
+use Rattle.judge.specs.Walking.{askedWrongly, refusedWalk, endedWalk, AskedGives, ReadGives, WalkGives}
+use Rattle.demands.specs.Demands.{oneOf, ofReading, ofCheck, ofAsking}
+
+-- a number of one list is one of a longer list
+in-more : (xs ys : List ℕ) (n : ℕ) → oneOf xs n ≡ true → oneOf (xs ++ ys) n ≡ true
+in-more [] ys n e = let z : _≡_ {A = ℕ} 0 1 = cc in absurd (omega arith)
+in-more (x ∷ xs) ys n e = go (eqb n x) (in-more xs ys n) e
+  where
+    go : (b : Bool) → (oneOf xs n ≡ true → oneOf (xs ++ ys) n ≡ true) → (b || oneOf xs n) ≡ true → (b || oneOf (xs ++ ys) n) ≡ true
+    go true more e = refl
+    go false more e = more e
+
+-- the numbers of a picture that does not read
+abbrev refusals : List ℕ
+refusals = 1 ∷ 2 ∷ 3 ∷ 4 ∷ 5 ∷ 6 ∷ 7 ∷ 8 ∷ 9 ∷ 10 ∷ []
+
+abbrev Numbered : Reading → Type 0
+Numbered (Read h) = Unit {0}
+Numbered (Refused r) = oneOf refusals (r .number) ≡ true
+
+numbered-if : (wrong : Bool) (number port : ℕ) (rest : Reading) → oneOf refusals number ≡ true → Numbered rest → Numbered (refusedIf wrong number port rest)
+numbered-if true number port rest is other = is
+numbered-if false number port rest is other = other
+
+numbered-at : (found : Found) (number : ℕ) (rest : Reading) → oneOf refusals number ≡ true → Numbered rest → Numbered (refusedAt found number rest)
+numbered-at (At p) number rest is other = is
+numbered-at Nothing number rest is other = other
+
+reading-numbered : (s : List ℕ) → Numbered (reading s)
+unfolding reading portsReading
+reading-numbered s =
+    numbered-if (lengthWrong s) 1 255 _ refl
+    (numbered-if (editionWrong (headerOf s)) 2 255 _ refl
+    (numbered-if (countWrong (headerOf s)) 3 255 _ refl
+    (numbered-if (totalWrong (length s) (headerOf s)) 4 255 _ refl
+    (numbered-if (offsetWrong (length s) (headerOf s)) 5 255 _ refl
+    (numbered-at (firstIn (breaks Tree s) 0 (countOf s)) 6 _ refl
+    (numbered-at (firstIn (breaks Chain s) 0 (countOf s)) 7 _ refl
+    (numbered-at (firstIn (breaks Settings s) 0 (countOf s)) 8 _ refl
+    (numbered-at (firstIn (breaks Start s) 0 (countOf s)) 9 _ refl
+    (numbered-at (misplacedIn s) 10 _ refl tt)))))))))
+
+-- a refusal of the reading is one of 1 to 10, so one of every call's numbers, and never 0
+refusal-of-table : (others : List ℕ) (n : ℕ) → oneOf refusals n ≡ true → oneOf (ofReading ++ others) n ≡ true
+refusal-of-table others n e = in-more ofReading others n (zero-too (eqb n 0) e)
+  where
+    zero-too : (b : Bool) → oneOf refusals n ≡ true → (b || oneOf refusals n) ≡ true
+    zero-too true e = refl
+    zero-too false e = e
+
+pub never-zero : (s : List ℕ) (r : Refusal) → reading s ≡ Refused r → r .number ≡ 0 → ⊥
+never-zero s r e none =
+    let told : oneOf refusals (r .number) ≡ true = subst Numbered e (reading-numbered s) in
+    let zero : oneOf refusals 0 ≡ true = subst (λ (n : ℕ). oneOf refusals n ≡ true) none told in
+    let z : _≡_ {A = ℕ} 0 1 = cc in
+    omega arith
+
+verdict-numbered : (v : Verdict) → oneOf ofCheck (verdictNumber v) ≡ true
+verdict-numbered Clear = refl
+verdict-numbered (Shared (Id rid) p q) = refl
+verdict-numbered (Shared (Addr a) p q) = refl
+verdict-numbered (Stray (Id rid) p) = refl
+verdict-numbered (Stray (Addr a) p) = refl
+verdict-numbered (Lost p) = refl
+
+module _ (s : List ℕ) where
+  pub check-numbered : oneOf ofCheck (checkNumber (checkAnswer s)) ≡ true
+  unfolding checkOf
+  check-numbered = go (reading s) (reading-numbered s)
+    where
+      go : (got : Reading) → Numbered got → oneOf ofCheck (checkNumber (checkOf got s)) ≡ true
+      go (Refused r) told = refusal-of-table (11 ∷ 12 ∷ 13 ∷ 14 ∷ 15 ∷ []) (r .number) told
+      go (Read h) told = verdict-numbered (verdictOf (chassisOf s))
+
+  pub claim-numbered : (port : ℕ) (t : Target) → oneOf ofAsking (claimNumber (claimAnswer s port t)) ≡ true
+  unfolding claimOf
+  claim-numbered port t = go (reading s) (reading-numbered s)
+    where
+      below : (b : Bool) (h : Header) → ltb port (h .count) ≡ b → oneOf ofAsking (claimNumber (claimOf (Read h) s port t)) ≡ true
+      below true h e = rw e
+      below false h e = rw e
+
+      go : (got : Reading) → Numbered got → oneOf ofAsking (claimNumber (claimOf got s port t)) ≡ true
+      go (Refused r) told = refusal-of-table (16 ∷ []) (r .number) told
+      go (Read h) told = below (ltb port (h .count)) h refl
+
+  pub convert-numbered : (port : ℕ) (rid : Rid) → oneOf ofAsking (convertNumber (convertAnswer s port rid)) ≡ true
+  unfolding convertOf
+  convert-numbered port rid = go (reading s) (reading-numbered s)
+    where
+      below : (b : Bool) (h : Header) → ltb port (h .count) ≡ b → oneOf ofAsking (convertNumber (convertOf (Read h) s port rid)) ≡ true
+      below true h e = rw e
+      below false h e = rw e
+
+      go : (got : Reading) → Numbered got → oneOf ofAsking (convertNumber (convertOf got s port rid)) ≡ true
+      go (Refused r) told = refusal-of-table (16 ∷ []) (r .number) told
+      go (Read h) told = below (ltb port (h .count)) h refl
+
+  pub walk-numbered : (kind start target : ℕ) (a : WalkAnswer) → WalkGives s kind start target a → oneOf ofAsking (outcomeNumber (a .outcome)) ≡ true
+  unfolding refusedWalk endedWalk
+  walk-numbered kind start target a = go (reading s) (reading-numbered s)
+    where
+      asked : (wrong : Bool) → AskedGives wrong s kind start target a → oneOf ofAsking (outcomeNumber (a .outcome)) ≡ true
+      asked true e = rw e
+      asked false e = rw (e .2)
+
+      go : (got : Reading) → Numbered got → ReadGives got s kind start target a → oneOf ofAsking (outcomeNumber (a .outcome)) ≡ true
+      go (Refused r) told e = rw e (refusal-of-table (16 ∷ []) (r .number) told)
+      go (Read h) told e = asked (askedWrongly (chassisOf s .tree) kind start target) e
