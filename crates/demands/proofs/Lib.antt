@@ -1,3 +1,4 @@
 pub mod Numbers
 pub mod Demands
 pub mod Worked
+pub mod WorkedWalks

@@ -4,11 +4,13 @@
 use Prim.Native.Nat.{ℕ, zero, suc, _+_, _*_, _/_, _%_}
 use mathlib.Core.List.{List, [], _∷_, _++_}
 use Rattle.chassis.specs.declared.End.{End}
+use Rattle.chassis.specs.declared.End.the-variants.{Device, Function, Host, Unsupported}
 use Rattle.chassis.specs.Chassis.{portNo}
 use Rattle.paths.specs.Paths.{pathOf}
 use Rattle.ids.specs.declared.PortNo.{PortNo}
 use Rattle.judge.specs.declared.Outcome.the-variants.{Ended}
 use Rattle.judge.specs.declared.WalkAnswer.{WalkAnswer}
+use Rattle.judge.specs.Walking.{WalkGives}
 
 unfoldable pub zeros : ℕ → List ℕ
 zeros zero = []
@@ -62,3 +64,19 @@ portNos (p ∷ ps) = portNo p ∷ portNos ps
 
 abbrev pub cameTo : End → List ℕ → WalkAnswer
 cameTo end crossed = record { outcome = Ended end; path = pathOf (portNos crossed) }
+
+-- Walks through it, as the call answers them: packet kind (0 ID, 1 address, 2 configuration request), start, target.
+pub record WorkedWalks : Type 0 where
+  -- down to the device below port 2, and across the switch to it
+  pub down : WalkGives worked 0 255 0x0300 (cameTo (Device (portNo 2) 0) (0 ∷ 1 ∷ 2 ∷ []))
+  pub across : WalkGives worked 0 3 0x0300 (cameTo (Device (portNo 2) 0) (3 ∷ 2 ∷ []))
+  -- a port's own ID
+  pub own-id : WalkGives worked 0 255 0x0200 (cameTo (Function (portNo 2)) (0 ∷ 1 ∷ []))
+  -- an address: port 2 refuses what it claims to its own device, and passes it to it from elsewhere
+  pub own-device : WalkGives worked 1 2 0xE0000000 (cameTo (Unsupported (portNo 2)) [])
+  pub other-device : WalkGives worked 1 3 0xE0000000 (cameTo (Device (portNo 2) 0) (3 ∷ 2 ∷ []))
+  -- up to the host
+  pub up : WalkGives worked 1 2 0 (cameTo Host (2 ∷ 1 ∷ 0 ∷ []))
+  -- configuration requests for Function 0 of the device below port 2, and for a device number that it cannot have
+  pub configures : WalkGives worked 2 255 0x0300 (cameTo (Device (portNo 2) 0) (0 ∷ 1 ∷ 2 ∷ []))
+  pub refuses : WalkGives worked 2 255 0x0308 (cameTo (Unsupported (portNo 2)) (0 ∷ 1 ∷ []))
