@@ -5,33 +5,22 @@ use Rattle.fiswalend.proofs.CheckCalls.{left-17, left-40}
 use borrow.Author.Needs.{needs}
 use Rattle.fiswalend.proofs.check_call.fpb_check.Statement.{statement}
 use Rattle.fiswalend.proofs.check_call.fpb_check.Tie as tie
-use Rattle.fiswalend.proofs.check_call.fpb_check.Reads as reads
-use Rattle.fiswalend.proofs.check_call.fpb_check.Lts as lts
-use Rattle.fiswalend.proofs.buffers.write.Reads as write-reads
-use Rattle.fiswalend.proofs.checked.check_bytes.Reads as check-bytes-reads
-use Rattle.judge.proofs.check.Reads as check-reads
 
--- src/check_call.rt:15:9
 returns : tie.Need-returns
 returns c = left-17 _ _ (omega arith)
 
--- src/check_call.rt:17:23
 check-requires : tie.Need-check-requires
 check-requires c κs = search needs
 
--- src/check_call.rt:17:11
 check-bytes-requires : tie.Need-check-bytes-requires
 check-bytes-requires c κs = search needs
 
--- src/check_call.rt:17:5
 write-requires : tie.Need-write-requires
 write-requires c κs = search needs
 
--- src/check_call.rt:9:1
 same-length : tie.Need-same-length
 same-length c = search needs
 
--- src/check_call.rt:9:1
 returns-2 : tie.Need-returns-2
 returns-2 c = left-40 _ _ (omega arith) (c .before .before .before .before .check-bytes .ensures ∙ ap checkBytes (c .before .before .before .before .before .check .ensures)) (c .before .before .write .ensures .0) (c .before .before .write .ensures .1)
 

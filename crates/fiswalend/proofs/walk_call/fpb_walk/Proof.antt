@@ -4,33 +4,22 @@ use Rattle.fiswalend.proofs.WalkCalls.{crossings-few, leaves-17, leaves
 use borrow.Author.Needs.{needs}
 use Rattle.fiswalend.proofs.walk_call.fpb_walk.Statement.{statement}
 use Rattle.fiswalend.proofs.walk_call.fpb_walk.Tie as tie
-use Rattle.fiswalend.proofs.walk_call.fpb_walk.Reads as reads
-use Rattle.fiswalend.proofs.walk_call.fpb_walk.Lts as lts
-use Rattle.fiswalend.proofs.buffers.write.Reads as write-reads
-use Rattle.fiswalend.proofs.walked.walk_bytes.Reads as walk-bytes-reads
-use Rattle.judge.proofs.walk.Reads as walk-reads
 
--- src/walk_call.rt:17:9
 returns : tie.Need-returns
 returns c = leaves-17 _ _ _ _ _ _ _ (omega arith) refl refl
 
--- src/walk_call.rt:19:22
 walk-requires : tie.Need-walk-requires
 walk-requires c κs = search needs
 
--- src/walk_call.rt:19:11
 walk-bytes-requires : tie.Need-walk-bytes-requires
 walk-bytes-requires c κs = omega (arith, crossings-few _ _ _ _ _ (c .walk .ensures))
 
--- src/walk_call.rt:19:5
 write-requires : tie.Need-write-requires
 write-requires c κs = search needs
 
--- src/walk_call.rt:6:1
 same-length : tie.Need-same-length
 same-length c = search needs
 
--- src/walk_call.rt:6:1
 returns-2 : tie.Need-returns-2
 returns-2 c = leaves-40 _ _ _ _ _ _ _ _ _ (omega arith) (c .before .before .before .before .before .walk .ensures) (c .before .before .before .before .walk-bytes .ensures) (c .before .before .write .ensures .0) (c .before .before .write .ensures .1)
 
