@@ -4,3 +4,4 @@ pub mod Tests
 pub mod Worked
 pub mod WorkedWalks
 pub mod WorkedPasses
+pub mod Doubled

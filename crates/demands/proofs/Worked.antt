@@ -1,4 +1,5 @@
--- The worked chassis reads. Assumes nothing.
+-- The worked chassis reads, and so does its like that fails. Assumes nothing.
+use Prim.Native.Nat.{ℕ}
 use mathlib.Core.Path.{_≡_, refl}
 use Rattle.least.specs.Least.{firstOf, firstIn}
 use Rattle.lent.specs.Lent.{u16At, u32At}
@@ -11,12 +12,15 @@ use Rattle.picture.specs.Layout.{runningOffset, placeWrong, endWrong}
 use Rattle.picture.specs.declared.Header.{Header}
 use Rattle.picture.specs.declared.Reading.the-variants.{Read}
 use Rattle.picture.specs.Reading.{breaks, misplacedIn, portsReading, reading}
-use Rattle.demands.specs.Worked.{zeros, u16, u32, headerFor, recordOf, chassisWith, worked, doubled}
+use Rattle.demands.specs.Worked.{zeros, u16, u32, headerFor, recordOf, chassisWith, worked}
 
 -- four ports, and no vectors
 abbrev pub fourPorts : Header
 fourPorts = record { edition = 1; count = 4; total = 240; «records_at» = 16; «vectors_at» = 240 }
 
-pub worked-reads : reading worked ≡ Read fourPorts
+pub reads : (bus : ℕ) → reading (chassisWith bus) ≡ Read fourPorts
 unfolding zeros u16 u32 headerFor recordOf chassisWith reading portsReading misplacedIn breaks runningOffset placeWrong endWrong headerOf lengthWrong editionWrong countWrong totalWrong offsetWrong sizeReserved granularityAllowed mechanismWrong memoryBitsWrong settingsWrong withAri startBroken startWrong settingsOf vectorBytes bridgeAt fpbAt portAt anyBelow upstreamBroken downstreamBroken treeBroken oneAbove above chainTooLong firstOf firstIn u16At u32At
-worked-reads = refl
+reads bus = refl
+
+pub worked-reads : reading worked ≡ Read fourPorts
+worked-reads = reads 4
