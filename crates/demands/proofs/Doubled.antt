@@ -1,11 +1,10 @@
 -- The picture that differs from the worked one in one port's buses fails: ID 0300h is the least that two ports hold. Assumes nothing.
 use Prim.Native.Nat.{ℕ, _<_, zero-le}
-use mathlib.Core.Bool.{Bool, true, false, _&&_, and-comm, or-false}
-use mathlib.Core.Path.{_≡_, refl, _∙_}
+use mathlib.Core.Bool.{true, false, _&&_}
+use mathlib.Core.Logic.{inl}
+use mathlib.Core.Path.{_≡_, refl}
 use native.Mathlib.Omega.{arith}
 use borrow.Author.Tests.{lt-leb}
-use Rattle.ids.specs.declared.PortNo.{PortNo}
-use Rattle.ids.specs.declared.Target.{Target}
 use Rattle.ids.specs.declared.Target.the-variants.{Id}
 use Rattle.ids.specs.declared.Space.the-variants.{Ids}
 use Rattle.ids.specs.Ids.{busOf}
@@ -22,15 +21,14 @@ use Rattle.claims.specs.Decoders.{busClaims, vectorClaims, claimsId}
 use Rattle.claims.specs.Claims.{chassisOf}
 use Rattle.judge.specs.declared.CheckAnswer.the-variants.{Judged}
 use Rattle.judge.specs.Checking.{checkOf, checkAnswer, checkNumber}
+use Rattle.demands.specs.Demands.{Overlap}
 use Rattle.demands.specs.Worked.{zeros, u16, u32, headerFor, recordOf, chassisWith, doubled}
-use Rattle.demands.proofs.Tests.{either-or, just}
-use Rattle.demands.proofs.Worked.{reads}
+use Rattle.demands.proofs.Demands.{overlap-exactly}
+use Rattle.demands.proofs.Tests.{either-or}
+use Rattle.demands.proofs.FourPorts.{fourPorts, reads, id, unshared-where}
 
 abbrev c : Chassis
 c = chassisOf doubled
-
-abbrev id : ℕ → Target
-id n = Id (record { 0 = n })
 
 -- below 0300h no ID is held by two ports, and none is claimed by the port whose own it is
 module _ (n : ℕ) (below : n < 0x0300) where
@@ -43,16 +41,8 @@ module _ (n : ℕ) (below : n < 0x0300) where
   held-apart = either-or 0x0200 n (λ m. c .claims 2 (id m)) (λ m. holds c (id m) 3) refl (rw unclaimed)
 
   unshared : shared c (id n) ≡ false
-  unfolding zeros u16 u32 headerFor recordOf chassisWith u16At u32At bridgeAt fpbAt portAt busClaims vectorClaims claimsId anyBelow clash clashesWith shared
-  unshared =
-      simp (
-        just 0x0008 n (λ m. c .claims 0 (id m)) refl,
-        just 0x0100 n (λ m. c .claims 1 (id m)) refl,
-        just 0x0200 n (λ m. c .claims 2 (id m)) refl,
-        just 0x0208 n (λ m. c .claims 3 (id m)) refl,
-        held-apart,
-        and-comm (holds c (id n) 3) (holds c (id n) 2) ∙ held-apart,
-      )
+  unfolding zeros u16 u32 headerFor recordOf chassisWith u16At u32At bridgeAt fpbAt portAt busClaims vectorClaims claimsId
+  unshared = unshared-where 3 n refl held-apart
 
 both-hold : shared c (id 0x0300) ≡ true
 unfolding zeros u16 u32 headerFor recordOf chassisWith u16At u32At bridgeAt fpbAt portAt busClaims vectorClaims claimsId holds anyBelow clash clashesWith shared
@@ -74,3 +64,7 @@ doubled-shown = rw (reads 3) (rw (least, pair .1, pair .0))
 
 pub doubled-fails : checkNumber (checkAnswer doubled) ≡ 11
 doubled-fails = rw doubled-shown
+
+-- and by the other half of demand 3 it has an overlap
+pub doubled-overlaps : Overlap (chassisOf doubled)
+doubled-overlaps = overlap-exactly doubled fourPorts (reads 3) .exactly .0 (inl doubled-fails)

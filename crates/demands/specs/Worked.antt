@@ -4,7 +4,7 @@
 use Prim.Native.Nat.{ℕ, zero, suc, _+_, _*_, _/_, _%_}
 use mathlib.Core.List.{List, [], _∷_, _++_}
 use Rattle.chassis.specs.declared.End.{End}
-use Rattle.chassis.specs.declared.End.the-variants.{Device, Function, Host, Unsupported}
+use Rattle.chassis.specs.declared.End.the-variants.{Device, Function, Host, Unsupported, Doubled}
 use Rattle.chassis.specs.Chassis.{portNo}
 use Rattle.paths.specs.Paths.{pathOf}
 use Rattle.ids.specs.declared.PortNo.{PortNo}
@@ -80,3 +80,5 @@ pub record WorkedWalks : Type 0 where
   -- configuration requests for Function 0 of the device below port 2, and for a device number that it cannot have
   pub configures : WalkGives worked 2 255 0x0300 (cameTo (Device (portNo 2) 0) (0 ∷ 1 ∷ 2 ∷ []))
   pub refuses : WalkGives worked 2 255 0x0308 (cameTo (Unsupported (portNo 2)) (0 ∷ 1 ∷ []))
+  -- and where both downstream ports have bus 3, the first of these ends below port 1
+  pub doubles : WalkGives doubled 0 255 0x0300 (cameTo (Doubled (portNo 2) (portNo 3)) (0 ∷ 1 ∷ []))
