@@ -1,8 +1,9 @@
 -- The worked chassis reads and passes the check, so demand 3 speaks of it. Assumes nothing.
-use Prim.Native.Nat.{ℕ}
-use mathlib.Core.Bool.{false, not, _&&_, and-comm, and-false, or-false}
+use Prim.Native.Nat.{ℕ, _^_}
+use mathlib.Core.Bool.{false, not, _&&_, _||_, and-comm, and-false, or-false}
 use mathlib.Core.Path.{_≡_, refl, _∙_}
 use native.Mathlib.Omega.{arith}
+use lib.Dec.{leb, ltb}
 use Rattle.ids.specs.declared.Target.{Target}
 use Rattle.ids.specs.declared.Target.the-variants.{Id, Addr}
 use Rattle.ids.specs.Ids.{busOf}
@@ -27,7 +28,7 @@ use Rattle.claims.specs.Claims.{chassisOf}
 use Rattle.judge.specs.Checking.{checkOf, checkAnswer, checkNumber}
 use Rattle.demands.specs.Worked.{zeros, u16, u32, headerFor, recordOf, chassisWith, worked}
 use Rattle.demands.proofs.Demands.{demand-3}
-use Rattle.demands.proofs.Tests.{either-or, apart, within, never-both}
+use Rattle.demands.proofs.Tests.{either-or, empty, apart, within, never-both}
 use Rattle.demands.proofs.FourPorts.{fourPorts, reads, id, unshared-where}
 
 abbrev c : Chassis
@@ -36,7 +37,7 @@ c = chassisOf worked
 pub worked-reads : reading worked ≡ Read fourPorts
 worked-reads = reads 4
 
--- what each port claims of the IDs, and that ports 1 and 2 claim the addresses that their parents claim, and port 3 none
+-- what each port claims: its buses, and the one window or none
 buses : (n : ℕ)
     → (c .claims 0 (id n) ≡ between 1 4 (busOf n))
     × (c .claims 1 (id n) ≡ between 2 4 (busOf n))
@@ -46,11 +47,16 @@ unfolding zeros u16 u32 headerFor recordOf chassisWith u16At u32At bridgeAt fpbA
 buses n = (or-false _, or-false _, or-false _, or-false _)
 
 windows : (a : ℕ)
-    → (c .claims 1 (Addr a) ≡ c .claims 0 (Addr a))
-    × (c .claims 2 (Addr a) ≡ c .claims 1 (Addr a))
+    → (c .claims 0 (Addr a) ≡ between 0xE0000000 0xE00FFFFF a)
+    × (c .claims 1 (Addr a) ≡ between 0xE0000000 0xE00FFFFF a)
+    × (c .claims 2 (Addr a) ≡ between 0xE0000000 0xE00FFFFF a)
     × (c .claims 3 (Addr a) ≡ false)
 unfolding zeros u16 u32 headerFor recordOf chassisWith u16At u32At bridgeAt fpbAt portAt vectorClaims memoryClaims prefetchableClaims lowClaims highClaims memorySpaceEnabled claimsAddress
-windows a = (refl, refl, refl)
+windows a = (only-window, only-window, only-window, refl)
+  where
+    only-window : (((between 0xE0000000 0xE00FFFFF a || between 0xFFF00000 0x000FFFFF a) || ltb a (2 ^ 32) && false) || leb (2 ^ 32) a && false)
+        ≡ between 0xE0000000 0xE00FFFFF a
+    only-window = simp (empty 0xFFF00000 0x000FFFFF a (omega arith), and-false, or-false)
 
 -- no ID is held by the two downstream ports, and what a port holds is claimed by its parent
 module _ (n : ℕ) where
@@ -81,11 +87,11 @@ module _ (n : ℕ) where
 
   unshared-address : shared c (Addr n) ≡ false
   unfolding zeros u16 u32 headerFor recordOf chassisWith u16At u32At portAt holds anyBelow clash clashesWith shared
-  unshared-address = simp (windows n .2, and-false)
+  unshared-address = simp (windows n .3, and-false)
 
   unstrayed-address : stray c (Addr n) ≡ false
   unfolding zeros u16 u32 headerFor recordOf chassisWith u16At u32At portAt holds anyBelow straysAt stray
-  unstrayed-address = simp (windows n .0, windows n .1, windows n .2, never-both)
+  unstrayed-address = simp (windows n .0, windows n .1, windows n .2, windows n .3, never-both)
 
 -- no own ID is lost
 kept : anyBelow (ownIdLost c) (c .tree .count) ≡ false

@@ -1,6 +1,6 @@
 -- A worked chassis, so that no demand is empty: a picture of a root port, a switch below it, and a device below each of its two
--- downstream ports. proofs/Worked.antt shows that it passes the check and computes walks through it; the second picture, which
--- differs in one port's buses, fails.
+-- downstream ports. It passes the check (proofs/Worked.antt), and walks through it are computed (proofs/WorkedWalks.antt); a picture
+-- that differs in one port's bus fails (proofs/Doubled.antt).
 use Prim.Native.Nat.{ℕ, zero, suc, _+_, _*_, _/_, _%_}
 use mathlib.Core.List.{List, [], _∷_, _++_}
 use Rattle.chassis.specs.declared.End.{End}
