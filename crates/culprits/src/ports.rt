@@ -30,6 +30,7 @@ fn strays_at(s: &[u8], t: Target, p: PortNo) -> bool
     !(kind_at(s, p) == 0) & holds(s, p, t) & !claims(s, parent_at(s, p), t)
 }
 
+// Whether a conversion is Type 0.
 fn is_type0(made: Conversion) -> bool
     ensures { λ r. ⌜ r ≡ isType0 made ⌝ }
 {
@@ -50,6 +51,7 @@ fn own_id_lost(s: &[u8], p: PortNo) -> bool
     !(kind_at(s, p) == 0) & !(claims(s, parent, own) & is_type0(conversion(s, parent, own)))
 }
 
+// Whether a port has a fault.
 fn has_fault(s: &[u8], fault: Fault, p: PortNo) -> bool
     ensures { λ r. ⌜ r ≡ hasFault fault (chassisOf (now (s .entry))) (p .0) ⌝ }
 {

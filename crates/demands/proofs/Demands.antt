@@ -39,12 +39,29 @@ use Rattle.judge.specs.declared.Outcome.the-variants.{Ended}
 use Rattle.judge.specs.Checking.{checkOf, checkAnswer, checkNumber}
 use Rattle.judge.specs.Walking.{packetOf, askedWrongly, refusedWalk, endedWalk, AskedGives, ReadGives, WalkGives}
 use Rattle.judge.proofs.Walks.{walk-only, sane-read, within-start}
-use Rattle.demands.specs.Demands.{Demand1, Demand2, Demand3, Names, Overlap, OverlapExactly}
+use Rattle.fiswalend.specs.Calls.{tooShort, returned, written, WalkLeaves, WalkCall}
+use Rattle.fiswalend.proofs.Buffers.{under-40}
+use Rattle.fiswalend.proofs.WalkCalls.{walk-call-only}
+use Rattle.demands.specs.Demands.{Demand1, Demand1Buffer, Demand2, Demand3, Names, Overlap, OverlapExactly}
 use Rattle.demands.proofs.Numbers.{check-numbered, claim-numbered, convert-numbered, walk-numbered, never-zero}
 
 pub demand-1 : (s : List ℕ) → Demand1 s
 demand-1 s =
     record { check = check-numbered s; walk = walk-numbered s; claim = claim-numbered s; convert = convert-numbered s }
+
+pub demand-1-buffer : (s before : List ℕ) → Demand1Buffer s before
+unfolding returned written
+demand-1-buffer s before =
+    record {
+      check = λ short. (rw (under-40 before short), rw (under-40 before short));
+      walk = λ short kind start target number after call. untouched kind start target number after (under-40 before short) call;
+      only = λ kind start target m n x y. walk-call-only s kind start target before m n x y;
+    }
+  where
+    untouched : (kind start target number : ℕ) (after : List ℕ) → tooShort before ≡ true → WalkCall s kind start target before number after
+        → (number ≡ 17) × (after ≡ before)
+    untouched kind start target number after short call =
+        subst (λ (b : Bool). WalkLeaves b s kind start target before number after) short call
 
 -- a path of at most 32 ports has 32 places, and names them first
 names : (path : Path) (crossed : List PortNo) → length crossed ≤ 32 → path ≡ pathOf crossed → Names path crossed

@@ -1,6 +1,6 @@
 -- The three demands, of the very definitions that the public calls promise. Their proofs are in proofs/Demands.antt, under the same
 -- names in small letters: demand-1, demand-2, demand-3, overlap-exactly (of a picture that reads).
-use Prim.Native.Nat.{ℕ}
+use Prim.Native.Nat.{ℕ, _<_}
 use mathlib.Core.Bool.{Bool, true, false, _||_}
 use mathlib.Core.List.{List, [], _∷_, _++_}
 use mathlib.Core.Logic.{_↔_, _⊎_}
@@ -27,6 +27,8 @@ use Rattle.judge.specs.Claiming.{claimAnswer, claimNumber}
 use Rattle.judge.specs.Converting.{convertAnswer, convertNumber}
 use Rattle.judge.specs.Ends.{outcomeNumber}
 use Rattle.judge.specs.Walking.{packetOf, WalkGives}
+use Rattle.fiswalend.specs.Calls.{returned, written, WalkCall}
+use Rattle.fiswalend.specs.Checked.{checkBytes}
 
 -- one of a list of numbers
 abbrev pub oneOf : List ℕ → ℕ → Bool
@@ -44,12 +46,21 @@ abbrev pub ofAsking : List ℕ
 ofAsking = ofReading ++ (16 ∷ [])
 
 -- Demand 1: "Any bytes may be lent as a picture, with any ID, address or start. Each call ends with one answer from the paper's table."
--- (That each call ends, and only reads the picture, is part of every proved contract; the controller's buffer is with its calls.)
+-- (That each call ends, and only reads the picture, is part of every proved contract.)
 pub record Demand1 (s : List ℕ) : Type 0 where
   pub check : oneOf ofCheck (checkNumber (checkAnswer s)) ≡ true
   pub walk : (kind start target : ℕ) (a : WalkAnswer) → WalkGives s kind start target a → oneOf ofAsking (outcomeNumber (a .outcome)) ≡ true
   pub claim : (port : ℕ) (t : Target) → oneOf ofAsking (claimNumber (claimAnswer s port t)) ≡ true
   pub convert : (port : ℕ) (rid : Rid) → oneOf ofAsking (convertNumber (convertAnswer s port rid)) ≡ true
+
+-- and "an answer buffer too short stays untouched": what the controller's calls return, and the buffer after them, is one for each
+-- buffer before them, and 17 and that buffer itself where it is under 40 bytes
+pub record Demand1Buffer (s before : List ℕ) : Type 0 where
+  pub check : length before < 40 → (returned before (checkNumber (checkAnswer s)) ≡ 17) × (written before (checkBytes (checkAnswer s)) ≡ before)
+  pub walk : length before < 40 → (kind start target number : ℕ) (after : List ℕ) → WalkCall s kind start target before number after
+      → (number ≡ 17) × (after ≡ before)
+  pub only : (kind start target m n : ℕ) (x y : List ℕ) → WalkCall s kind start target before m x → WalkCall s kind start target before n y
+      → (m ≡ n) × (x ≡ y)
 
 -- a path names these ports in order, its count is the number named, and its unused places are 255
 pub record Names (path : Path) (ports : List PortNo) : Type 0 where

@@ -15,6 +15,7 @@ pub enum Regard {
     Claimed,
 }
 
+// Whether a port is looked at.
 fn regarded(s: &[u8], t: Target, regard: Regard, p: PortNo) -> bool
     ensures { λ r. ⌜ r ≡ regards regard (chassisOf (now (s .entry))) t (p .0) ⌝ }
 {

@@ -30,24 +30,28 @@ impl Rid {
 
     pub const FUNCTION_BITS: u16 = 3;
 
+    // Bits 15:8.
     pub fn bus(self) -> u8
         ensures { λ r. ⌜ r ≡ busOf (self .0) ⌝ }
     {
         ((self.0 >> (Rid::DEVICE_BITS + Rid::FUNCTION_BITS)) % (1 << Rid::BUS_BITS)) as u8
     }
 
+    // Bits 7:3.
     pub fn device(self) -> u8
         ensures { λ r. ⌜ r ≡ deviceOf (self .0) ⌝ }
     {
         ((self.0 >> Rid::FUNCTION_BITS) % (1 << Rid::DEVICE_BITS)) as u8
     }
 
+    // Bits 2:0.
     pub fn function(self) -> u8
         ensures { λ r. ⌜ r ≡ functionOf (self .0) ⌝ }
     {
         (self.0 % (1 << Rid::FUNCTION_BITS)) as u8
     }
 
+    // Bits 15:3.
     pub fn unit(self) -> Unit
         ensures { λ r. ⌜ r .0 ≡ unitOf (self .0) ⌝ }
     {

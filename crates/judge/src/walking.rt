@@ -19,6 +19,7 @@ ghost use Rattle.chassis.specs.Walk.{comeTo};
 ghost use Rattle.trees.specs.Trees.{countOf, treeOf};
 ghost use Rattle.judge.specs.Walking.{packetOf, idTooLarge, isStart, askedWrongly, refusedWalk, endedWalk, WalkGives};
 
+// An ID over FFFFh; an address may have 64 bits.
 fn id_too_large(kind: u32, target: u64) -> bool
     ensures { λ r. ⌜ r ≡ idTooLarge kind target ⌝ }
 {
@@ -63,6 +64,7 @@ fn asked_wrongly(s: &[u8], n: u8, kind: u32, start: u32, target: u64) -> bool
     (2 < kind) | id_too_large(kind, target) | !is_start(s, n, start)
 }
 
+// Where a packet is that starts there: 255 is the root.
 fn start_of(start: u32) -> Whereabouts
     requires { ⌜ start < 256 ⌝ }
     ensures { λ r. ⌜ r ≡ comeTo start ⌝ }
@@ -73,6 +75,7 @@ fn start_of(start: u32) -> Whereabouts
     Whereabouts::From(PortNo(start as u8))
 }
 
+// The answer of a call that is refused: nothing is crossed.
 fn refused(r: Refusal) -> WalkAnswer
     ensures { λ a. ⌜ a ≡ refusedWalk r ⌝ }
 {
@@ -82,6 +85,7 @@ fn refused(r: Refusal) -> WalkAnswer
     }
 }
 
+// The answer of a walk that came to its end.
 fn ended(w: Walked) -> WalkAnswer
     ensures { λ a. ⌜ a ≡ endedWalk w ⌝ }
 {
@@ -93,6 +97,7 @@ fn ended(w: Walked) -> WalkAnswer
     }
 }
 
+// Numbers 1 to 10, then 16, else where the packet ends, with every port crossed.
 pub fn walk(s: &[u8], kind: u32, start: u32, target: u64) -> WalkAnswer
     ensures { λ r. ⌜ WalkGives (now (s .entry)) kind start target r ⌝ }
 {

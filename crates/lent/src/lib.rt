@@ -5,12 +5,14 @@ ghost use Prim.Native.Nat.{_<_, _^_};
 ghost use lib.ListN.{getD, take, drop};
 ghost use Rattle.lent.specs.Lent.{u16At, u32At};
 
+// The byte at i.
 pub fn u8_at(s: &[u8], i: usize) -> u8
     ensures { λ r. ⌜ r ≡ getD (now (s .entry)) i 0 ⌝ }
 {
     if i < s.len() { s[i] } else { 0 }
 }
 
+// The two bytes from i on.
 pub fn u16_at(s: &[u8], i: usize) -> u16
     requires { ⌜ i < 2 ^ 40 ⌝ }
     ensures { λ r. ⌜ r ≡ u16At (now (s .entry)) i ⌝ }
@@ -18,6 +20,7 @@ pub fn u16_at(s: &[u8], i: usize) -> u16
     u8_at(s, i) as u16 + 256 * (u8_at(s, i + 1) as u16)
 }
 
+// The four bytes from i on.
 pub fn u32_at(s: &[u8], i: usize) -> u32
     requires { ⌜ i < 2 ^ 32 ⌝ }
     ensures { λ r. ⌜ r ≡ u32At (now (s .entry)) i ⌝ }

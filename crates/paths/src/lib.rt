@@ -12,6 +12,7 @@ pub struct Path {
 }
 
 impl Path {
+    // Nothing crossed yet.
     pub fn new() -> Path
         ensures { λ r. ⌜ r ≡ pathOf [] ⌝ }
     {

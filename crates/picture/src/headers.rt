@@ -5,6 +5,7 @@ use lent::u32_at;
 ghost use mathlib.Core.Path.{_≡_};
 ghost use Rattle.picture.specs.Header.{headerOf, lengthWrong, editionWrong, countWrong, totalWrong, offsetWrong};
 
+// The first 16 bytes.
 pub fn header_at(s: &[u8]) -> Header
     ensures { λ r. ⌜ r ≡ headerOf (now (s .entry)) ⌝ }
 {
@@ -17,30 +18,35 @@ pub fn header_at(s: &[u8]) -> Header
     }
 }
 
+// Number 1.
 pub fn length_wrong(s: &[u8]) -> bool
     ensures { λ r. ⌜ r ≡ lengthWrong (now (s .entry)) ⌝ }
 {
     (s.len() < 72) | (65536 < s.len())
 }
 
+// Number 2.
 pub fn edition_wrong(h: Header) -> bool
     ensures { λ r. ⌜ r ≡ editionWrong h ⌝ }
 {
     !(h.edition == 1)
 }
 
+// Number 3.
 pub fn count_wrong(h: Header) -> bool
     ensures { λ r. ⌜ r ≡ countWrong h ⌝ }
 {
     (h.count == 0) | (64 < h.count)
 }
 
+// Number 4.
 pub fn total_wrong(lent: usize, h: Header) -> bool
     ensures { λ r. ⌜ r ≡ totalWrong lent h ⌝ }
 {
     !(h.total as usize == lent)
 }
 
+// Number 5.
 pub fn offset_wrong(lent: usize, h: Header) -> bool
     ensures { λ r. ⌜ r ≡ offsetWrong lent h ⌝ }
 {

@@ -44,6 +44,7 @@ pub enum Culprit {
     Nobody,
 }
 
+// Whether a port breaks a rule.
 fn breaks_rule(s: &[u8], p: PortNo, rule: Rule) -> bool
     ensures { λ r. ⌜ r ≡ breaks rule (now (s .entry)) (p .0) ⌝ }
 {
@@ -69,6 +70,7 @@ fn lowest_culprit(s: &[u8], n: u8, rule: Rule) -> Culprit
     Culprit::Nobody
 }
 
+// The answer for a picture that does not read.
 fn refuse(number: u8, port: PortNo) -> Reading
     ensures { λ r. ⌜ r ≡ refused number (port .0) ⌝ }
 {

@@ -6,6 +6,7 @@ ghost use mathlib.Core.Path.{_≡_};
 ghost use Prim.Native.Nat.{_<_, _≤_};
 ghost use Rattle.registers.specs.Vectors.{controlOf, supportedIn, sizeCode, enabledIn, granularityCode, startOf, sizeOf, unitScale, settingsOf, vectorBytes};
 
+// Capabilities bit 0, 1 or 2.
 pub fn supported(f: Fpb, m: Mechanism) -> bool
     ensures { λ r. ⌜ r ≡ supportedIn f m ⌝ }
 {
@@ -16,6 +17,7 @@ pub fn supported(f: Fpb, m: Mechanism) -> bool
     }
 }
 
+// Capabilities bits 10:8, 18:16 or 26:24.
 pub fn size_code(f: Fpb, m: Mechanism) -> u32
     ensures { λ r. ⌜ r ≡ sizeCode f m ⌝ }
     ensures { λ r. ⌜ r < 8 ⌝ }
@@ -38,12 +40,14 @@ fn control(f: Fpb, m: Mechanism) -> u32
     }
 }
 
+// Bit 0 of the control register.
 pub fn enabled(f: Fpb, m: Mechanism) -> bool
     ensures { λ r. ⌜ r ≡ enabledIn f m ⌝ }
 {
     (control(f, m) >> 0) % 2 == 1
 }
 
+// Bits 7:4 of the control register.
 pub fn granularity_code(f: Fpb, m: Mechanism) -> u32
     ensures { λ r. ⌜ r ≡ granularityCode f m ⌝ }
     ensures { λ r. ⌜ r < 16 ⌝ }
@@ -85,6 +89,7 @@ fn size(f: Fpb, m: Mechanism) -> u64
     256 << size_code(f, m)
 }
 
+// A vector by its size, start and granularity.
 pub fn settings(f: Fpb, m: Mechanism) -> Settings
     ensures { λ r. ⌜ r ≡ settingsOf f m ⌝ }
     ensures { λ r. ⌜ r .scale < 64 ⌝ }

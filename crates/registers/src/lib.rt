@@ -61,6 +61,7 @@ pub struct Port {
     pub vectors_at: u32,
 }
 
+// The Type 1 header registers of the record that starts at r.
 fn bridge_at(s: &[u8], r: usize) -> Bridge
     requires { ⌜ r < 2 ^ 16 ⌝ }
     ensures { λ b. ⌜ b ≡ bridgeAt (now (s .entry)) r ⌝ }
@@ -79,6 +80,7 @@ fn bridge_at(s: &[u8], r: usize) -> Bridge
     }
 }
 
+// The FPB registers of the record that starts at r.
 fn fpb_at(s: &[u8], r: usize) -> Fpb
     requires { ⌜ r < 2 ^ 16 ⌝ }
     ensures { λ f. ⌜ f ≡ fpbAt (now (s .entry)) r ⌝ }

@@ -12,6 +12,7 @@ ghost use mathlib.Core.Path.{_≡_};
 ghost use Prim.Native.Nat.{_<_, _^_};
 ghost use Rattle.registers.specs.Rules.{sizeReserved, granularityAllowed, mechanismWrong, memoryBitsWrong, settingsWrong, withAri, startBroken, startWrong};
 
+// A size code that the table of settings does not have.
 fn size_reserved(f: Fpb, m: Mechanism) -> bool
     ensures { λ r. ⌜ r ≡ sizeReserved f m ⌝ }
 {
@@ -23,6 +24,7 @@ fn size_reserved(f: Fpb, m: Mechanism) -> bool
     }
 }
 
+// A granularity that the size allows.
 fn granularity_allowed(f: Fpb, m: Mechanism) -> bool
     ensures { λ r. ⌜ r ≡ granularityAllowed f m ⌝ }
 {
@@ -37,6 +39,7 @@ fn granularity_allowed(f: Fpb, m: Mechanism) -> bool
     }
 }
 
+// The part of number 8 that each mechanism has.
 fn mechanism_wrong(f: Fpb, m: Mechanism) -> bool
     ensures { λ r. ⌜ r ≡ mechanismWrong f m ⌝ }
 {
@@ -45,6 +48,7 @@ fn mechanism_wrong(f: Fpb, m: Mechanism) -> bool
         | (enabled(f, m) & !granularity_allowed(f, m))
 }
 
+// The part of number 8 about bits 3:0 of the Memory and Prefetchable registers.
 fn memory_bits_wrong(b: Bridge) -> bool
     ensures { λ r. ⌜ r ≡ memoryBitsWrong b ⌝ }
 {
@@ -82,6 +86,7 @@ fn granule(scale: u32) -> u64
     1 << scale
 }
 
+// An enabled start that is no multiple of the granularity.
 fn start_broken(f: Fpb, m: Mechanism) -> bool
     ensures { λ r. ⌜ r ≡ startBroken f m ⌝ }
 {

@@ -16,6 +16,7 @@ ghost use Rattle.chassis.specs.Walk.{downward as Walk·downward, upward as Walk
 ghost use Rattle.trees.specs.Trees.{countOf, treeOf};
 ghost use Rattle.claims.specs.Claims.{chassisOf};
 
+// What a packet is sent to.
 fn target_of(packet: Packet) -> Target
     ensures { λ r. ⌜ r ≡ targetOf packet ⌝ }
 {

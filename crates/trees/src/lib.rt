@@ -5,12 +5,14 @@ ghost use Rattle.chassis.specs.Tree.{hasChildBelow, isDevicePort, upstreamBroke
 ghost use Rattle.registers.specs.Record.{portAt};
 ghost use Rattle.trees.specs.Trees.{countOf, treeOf};
 
+// 0 root port, 1 switch upstream, 2 switch downstream.
 pub fn kind_at(s: &[u8], p: PortNo) -> u8
     ensures { λ r. ⌜ r ≡ portAt (now (s .entry)) (p .0) .kind ⌝ }
 {
     lent::u8_at(s, 16 + 56 * (p.0 as usize))
 }
 
+// The port above, 255 for a root port.
 pub fn parent_at(s: &[u8], p: PortNo) -> PortNo
     ensures { λ r. ⌜ r .0 ≡ portAt (now (s .entry)) (p .0) .parent .0 ⌝ }
 {
@@ -38,6 +40,7 @@ pub fn is_device_port(s: &[u8], n: u8, p: PortNo) -> bool
     (p.0 < n) & !(kind_at(s, p) == 1) & !has_child_below(s, n, p)
 }
 
+// An upstream port below an upstream port, or below one that is a parent already.
 fn upstream_broken(s: &[u8], p: PortNo) -> bool
     ensures { λ r. ⌜ r ≡ upstreamBroken (treeOf (now (s .entry))) (p .0) ⌝ }
 {
@@ -45,6 +48,7 @@ fn upstream_broken(s: &[u8], p: PortNo) -> bool
     (kind_at(s, parent) == 1) | has_child_below(s, p.0, parent)
 }
 
+// A downstream port that is not below an upstream port.
 fn downstream_broken(s: &[u8], p: PortNo) -> bool
     ensures { λ r. ⌜ r ≡ downstreamBroken (treeOf (now (s .entry))) (p .0) ⌝ }
 {

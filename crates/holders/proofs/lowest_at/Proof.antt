@@ -9,10 +9,6 @@ use mathlib.Core.Path.{_≡_, refl}
 use Prim.Native.Nat.{_≤_, _-_}
 use Rattle.holders.proofs.lowest_at.Statement.{statement}
 use Rattle.holders.proofs.lowest_at.Tie as tie
-use Rattle.holders.proofs.lowest_at.Reads as reads
-use Rattle.holders.proofs.lowest_at.Lts as lts
-use Rattle.holders.proofs.passes.Reads as passes-reads
-use Rattle.holders.proofs.with_port.Reads as with-port-reads
 
 abbrev Inv-loop : tie.InvT-loop
 Inv-loop s n place t regard found₀ p₀ found p = (p ≤ n) × (found ≡ lowestTwo (passesAt (chassisOf s) (place .0) (regards regard (chassisOf s) t)) p)
@@ -20,33 +16,26 @@ Inv-loop s n place t regard found₀ p₀ found p = (p ≤ n) × (found ≡ lowe
 abbrev μ-loop : tie.MeasureT-loop
 μ-loop s n place t regard found₀ p₀ found p = n - p
 
--- src/holders.rt:54:5
 loop-holds : tie.Need-loop-holds Inv-loop μ-loop
 unfolding lowestTwo
 loop-holds c = (search needs, refl)
 
--- src/holders.rt:55:45
 passes-requires : tie.Need-passes-requires Inv-loop μ-loop
 passes-requires c κs = tt
 
--- src/holders.rt:55:9
 with-port-requires : tie.Need-with-port-requires Inv-loop μ-loop
 with-port-requires c κs = tt
 
--- src/holders.rt:56:9
 add-p : tie.Need-add-p Inv-loop μ-loop
 add-p c = omega arith
 
--- src/holders.rt:54:5
 loop-less : tie.Need-loop-less Inv-loop μ-loop
 loop-less c = omega arith
 
--- src/holders.rt:54:5
 loop-again : tie.Need-loop-again Inv-loop μ-loop
 unfolding lowestTwo
 loop-again c = (omega arith, rw (add-one, ← c .before .passes .ensures, ← c .before .before .before .loop .inv .1) (c .with-port .ensures))
 
--- src/holders.rt:48:1
 returns : tie.Need-returns Inv-loop μ-loop
 returns c = all-tried _ (c .before .loop .inv .1) (c .before .loop .inv .0) (c .loop-test .left) (c .before .before .before .pre)
 

@@ -3,37 +3,28 @@ use Rattle.chassis.specs.Chassis.{withPort}
 use borrow.Author.Needs.{needs}
 use Rattle.holders.proofs.with_port.Statement.{statement}
 use Rattle.holders.proofs.with_port.Tie as tie
-use Rattle.holders.proofs.with_port.Reads as reads
-use Rattle.holders.proofs.with_port.Lts as lts
 
--- src/holders.rt:38:9
 returns : tie.Need-returns
 unfolding withPort
 returns c = rw (not-true (c .before .args .passes) (c .if1 .taken))
 
--- src/holders.rt:41:28
 enum-told : tie.Need-enum-told
 enum-told c = search needs
 
--- src/holders.rt:42:23
 enum-known-found : tie.Need-enum-known-found
 enum-known-found c = search needs
 
--- src/holders.rt:43:23
 enum-known-found-2 : tie.Need-enum-known-found-2
 enum-known-found-2 c = search needs
 
--- src/holders.rt:34:1
 returns-2 : tie.Need-returns-2
 unfolding withPort
 returns-2 c = rw (not-false (c .before .before .before .args .passes) (c .before .before .if1 .left), c .enum-told .given .1)
 
--- src/holders.rt:34:1
 returns-3 : tie.Need-returns-3
 unfolding withPort
 returns-3 c = rw (not-false (c .before .before .before .before .args .passes) (c .before .before .before .if1 .left), c .before .found .given .1)
 
--- src/holders.rt:34:1
 returns-4 : tie.Need-returns-4
 unfolding withPort
 returns-4 c = rw (not-false (c .before .before .before .before .args .passes) (c .before .before .before .if1 .left), c .before .found2 .given .1)

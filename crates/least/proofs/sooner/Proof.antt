@@ -2,38 +2,28 @@ use borrow.Author.Needs.{needs}
 use borrow.Author.Tests.{le-leb, lt-leb}
 use Rattle.least.proofs.sooner.Statement.{statement}
 use Rattle.least.proofs.sooner.Tie as tie
-use Rattle.least.proofs.sooner.Reads as reads
-use Rattle.least.proofs.sooner.Lts as lts
 
--- src/lib.rt:15:27
 enum-told : tie.Need-enum-told
 enum-told c = search needs
 
--- src/lib.rt:16:19
 enum-known-a : tie.Need-enum-known-a
 enum-known-a c = search needs
 
--- src/lib.rt:17:31
 enum-told-2 : tie.Need-enum-told-2
 enum-told-2 c = search needs
 
--- src/lib.rt:18:23
 enum-known-b : tie.Need-enum-known-b
 enum-known-b c = search needs
 
--- src/lib.rt:11:1
 returns : tie.Need-returns
 returns c = search needs
 
--- src/lib.rt:11:1
 returns-2 : tie.Need-returns-2
 returns-2 c = rw (c .before .before .before .a .given .1, c .enum-told2 .given .1)
 
--- src/lib.rt:11:1
 returns-3 : tie.Need-returns-3
 returns-3 c = rw (c .before .before .before .before .before .a .given .1, c .before .before .b .given .1) (simp (le-leb _ _ (c .if1 .taken)))
 
--- src/lib.rt:11:1
 returns-4 : tie.Need-returns-4
 returns-4 c = rw (c .before .before .before .before .before .a .given .1, c .before .before .b .given .1) (simp (lt-leb _ _ (c .if1 .left)))
 

@@ -7,34 +7,25 @@ use lib.Seq.{take-all, take-nil}
 use Prim.Native.Nat.{_-_}
 use Rattle.lent.proofs.part.Statement.{statement}
 use Rattle.lent.proofs.part.Tie as tie
-use Rattle.lent.proofs.part.Reads as reads
-use Rattle.lent.proofs.part.Lts as lts
 
--- src/lib.rt:33:9
 slice-aggregate-result : tie.Need-slice-aggregate-result
 slice-aggregate-result c = search needs
 
--- src/lib.rt:33:9
 returns : tie.Need-returns
 returns c = rw (drop-of-length-le (c .before .before .args .s .now) (c .before .if1 .taken)) (sym (take-nil (c .before .before .args .n)))
 
--- src/lib.rt:35:8
 sub-if2 : tie.Need-sub-if2
 sub-if2 c = search needs
 
--- src/lib.rt:36:16
 sub-result : tie.Need-sub-result
 sub-result c = search needs
 
--- src/lib.rt:36:16
 part-result-start : tie.Need-part-result-start
 part-result-start c = search needs
 
--- src/lib.rt:36:16
 part-result-end : tie.Need-part-result-end
 part-result-end c = search needs
 
--- src/lib.rt:36:9
 returns-2 : tie.Need-returns-2
 returns-2 c =
     let s = c .before .before .before .args .s .now in
@@ -42,23 +33,18 @@ returns-2 c =
     take-all (length s - a) (drop a s) (simp length-drop (omega arith))
     ∙ sym (take-all (c .before .before .before .args .n) (drop a s) (simp length-drop (omega arith)))
 
--- src/lib.rt:38:11
 add-result : tie.Need-add-result
 add-result c = search needs
 
--- src/lib.rt:38:5
 sub-result-2 : tie.Need-sub-result-2
 sub-result-2 c = search needs
 
--- src/lib.rt:38:5
 part-result-start-2 : tie.Need-part-result-start-2
 part-result-start-2 c = search needs
 
--- src/lib.rt:38:5
 part-result-end-2 : tie.Need-part-result-end-2
 part-result-end-2 c = search needs
 
--- src/lib.rt:29:1
 returns-3 : tie.Need-returns-3
 returns-3 c = rw add-sub-cancel-left
 

@@ -2,39 +2,28 @@ use borrow.Author.Needs.{needs}
 use Rattle.lent.specs.Lent.{u16At}
 use Rattle.lent.proofs.u16_at.Statement.{statement}
 use Rattle.lent.proofs.u16_at.Tie as tie
-use Rattle.lent.proofs.u16_at.Reads as reads
-use Rattle.lent.proofs.u16_at.Lts as lts
-use Rattle.lent.proofs.u8_at.Reads as u8-at-reads
 
--- src/lib.rt:18:5
 u8-at-requires : tie.Need-u8-at-requires
 u8-at-requires c κs = search needs
 
--- src/lib.rt:18:5
 cast-result : tie.Need-cast-result
 cast-result c = search needs
 
--- src/lib.rt:18:42
 add-u8-at : tie.Need-add-u8-at
 add-u8-at c = search needs
 
--- src/lib.rt:18:33
 u8-at-requires-2 : tie.Need-u8-at-requires-2
 u8-at-requires-2 c κs = search needs
 
--- src/lib.rt:18:33
 cast-result-2 : tie.Need-cast-result-2
 cast-result-2 c = search needs
 
--- src/lib.rt:18:26
 mul-result : tie.Need-mul-result
 mul-result c = search needs
 
--- src/lib.rt:18:5
 add-result : tie.Need-add-result
 add-result c = search needs
 
--- src/lib.rt:14:1
 returns : tie.Need-returns
 unfolding u16At
 returns c = cc

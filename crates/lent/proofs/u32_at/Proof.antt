@@ -2,39 +2,28 @@ use borrow.Author.Needs.{needs}
 use Rattle.lent.specs.Lent.{u32At}
 use Rattle.lent.proofs.u32_at.Statement.{statement}
 use Rattle.lent.proofs.u32_at.Tie as tie
-use Rattle.lent.proofs.u32_at.Reads as reads
-use Rattle.lent.proofs.u32_at.Lts as lts
-use Rattle.lent.proofs.u16_at.Reads as u16-at-reads
 
--- src/lib.rt:25:5
 u16-at-requires : tie.Need-u16-at-requires
 u16-at-requires c κs = search needs
 
--- src/lib.rt:25:5
 cast-result : tie.Need-cast-result
 cast-result c = search needs
 
--- src/lib.rt:25:46
 add-u16-at : tie.Need-add-u16-at
 add-u16-at c = search needs
 
--- src/lib.rt:25:36
 u16-at-requires-2 : tie.Need-u16-at-requires-2
 u16-at-requires-2 c κs = search needs
 
--- src/lib.rt:25:36
 cast-result-2 : tie.Need-cast-result-2
 cast-result-2 c = search needs
 
--- src/lib.rt:25:27
 mul-result : tie.Need-mul-result
 mul-result c = search needs
 
--- src/lib.rt:25:5
 add-result : tie.Need-add-result
 add-result c = search needs
 
--- src/lib.rt:21:1
 returns : tie.Need-returns
 unfolding u32At
 returns c = cc

@@ -3,18 +3,13 @@ use mathlib.Core.Path.{sym}
 use lib.ListN.{List·getD-eq-default}
 use Rattle.lent.proofs.u8_at.Statement.{statement}
 use Rattle.lent.proofs.u8_at.Tie as tie
-use Rattle.lent.proofs.u8_at.Reads as reads
-use Rattle.lent.proofs.u8_at.Lts as lts
 
--- src/lib.rt:11:22
 shared-slice-read-result : tie.Need-shared-slice-read-result
 shared-slice-read-result c = search needs
 
--- src/lib.rt:8:1
 returns : tie.Need-returns
 returns c = search needs
 
--- src/lib.rt:8:1
 returns-2 : tie.Need-returns-2
 returns-2 c = sym (List·getD-eq-default (c .before .args .s .now) 0 (c .if1 .left))
 

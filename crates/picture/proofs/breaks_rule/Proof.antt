@@ -2,70 +2,49 @@ use Rattle.picture.specs.Reading.{breaks}
 use borrow.Author.Needs.{needs}
 use Rattle.picture.proofs.breaks_rule.Statement.{statement}
 use Rattle.picture.proofs.breaks_rule.Tie as tie
-use Rattle.picture.proofs.breaks_rule.Reads as reads
-use Rattle.picture.proofs.breaks_rule.Lts as lts
-use Rattle.registers.proofs.port_at.Reads as port-at-reads
-use Rattle.registers.proofs.settings_wrong.Reads as settings-wrong-reads
-use Rattle.registers.proofs.start_wrong.Reads as start-wrong-reads
-use Rattle.trees.proofs.chain_too_long.Reads as chain-too-long-reads
-use Rattle.trees.proofs.tree_broken.Reads as tree-broken-reads
 
--- src/lib.rt:51:23
 enum-told : tie.Need-enum-told
 enum-told c = search needs
 
--- src/lib.rt:51:23
 tree-broken-requires : tie.Need-tree-broken-requires
 tree-broken-requires c κs = search needs
 
--- src/lib.rt:52:24
 enum-told-2 : tie.Need-enum-told-2
 enum-told-2 c = search needs
 
--- src/lib.rt:52:24
 chain-too-long-requires : tie.Need-chain-too-long-requires
 chain-too-long-requires c κs = search needs
 
--- src/lib.rt:53:53
 enum-told-3 : tie.Need-enum-told-3
 enum-told-3 c = search needs
 
--- src/lib.rt:53:53
 port-at-requires : tie.Need-port-at-requires
 port-at-requires c κs = search needs
 
--- src/lib.rt:53:27
 settings-wrong-requires : tie.Need-settings-wrong-requires
 settings-wrong-requires c κs = search needs
 
--- src/lib.rt:54:47
 enum-told-4 : tie.Need-enum-told-4
 enum-told-4 c = search needs
 
--- src/lib.rt:54:47
 port-at-requires-2 : tie.Need-port-at-requires-2
 port-at-requires-2 c κs = search needs
 
--- src/lib.rt:54:24
 start-wrong-requires : tie.Need-start-wrong-requires
 start-wrong-requires c κs = search needs
 
--- src/lib.rt:47:1
 returns : tie.Need-returns
 unfolding breaks
 returns c = rw (c .before .enum-told .given .1) (c .tree-broken .ensures)
 
--- src/lib.rt:47:1
 returns-2 : tie.Need-returns-2
 unfolding breaks
 returns-2 c = rw (c .before .enum-told2 .given .1) (c .chain-too-long .ensures)
 
--- src/lib.rt:47:1
 returns-3 : tie.Need-returns-3
 unfolding breaks
 returns-3 c = rw (c .before .before .enum-told3 .given .1, ← c .before .port-at .ensures) (c .settings-wrong .ensures)
 
--- src/lib.rt:47:1
 returns-4 : tie.Need-returns-4
 unfolding breaks
 returns-4 c = rw (c .before .before .enum-told4 .given .1, ← c .before .port-at2 .ensures) (c .start-wrong .ensures)

@@ -6,9 +6,6 @@ use mathlib.Core.Path.{sym, _∙_}
 use Prim.Native.Nat.{_≤_, _-_}
 use Rattle.picture.proofs.lowest_culprit.Statement.{statement}
 use Rattle.picture.proofs.lowest_culprit.Tie as tie
-use Rattle.picture.proofs.lowest_culprit.Reads as reads
-use Rattle.picture.proofs.lowest_culprit.Lts as lts
-use Rattle.picture.proofs.breaks_rule.Reads as breaks-rule-reads
 
 abbrev Inv-loop : tie.InvT-loop
 Inv-loop s n rule p₀ p = (p ≤ n) × NoneIn (breaks rule s) 0 p
@@ -16,31 +13,24 @@ Inv-loop s n rule p₀ p = (p ≤ n) × NoneIn (breaks rule s) 0 p
 abbrev μ-loop : tie.MeasureT-loop
 μ-loop s n rule p₀ p = n - p
 
--- src/lib.rt:63:5
 loop-holds : tie.Need-loop-holds Inv-loop μ-loop
 loop-holds c = (omega arith, none-empty (omega arith))
 
--- src/lib.rt:64:12
 breaks-rule-requires : tie.Need-breaks-rule-requires Inv-loop μ-loop
 breaks-rule-requires c κs = tt
 
--- src/lib.rt:65:13
 returns : tie.Need-returns Inv-loop μ-loop
 returns c = culprit-here _ _ _ (c .before .before .loop-test .taken) (sym (c .before .breaks-rule .ensures) ∙ c .if1 .taken) (c .before .before .before .loop .inv .1)
 
--- src/lib.rt:67:9
 add-p : tie.Need-add-p Inv-loop μ-loop
 add-p c = omega arith
 
--- src/lib.rt:63:5
 loop-less : tie.Need-loop-less Inv-loop μ-loop
 loop-less c = omega arith
 
--- src/lib.rt:63:5
 loop-again : tie.Need-loop-again Inv-loop μ-loop
 loop-again c = (omega arith, none-more (c .before .before .before .loop .inv .1) (sym (c .before .breaks-rule .ensures) ∙ c .if1 .left))
 
--- src/lib.rt:59:1
 returns-2 : tie.Need-returns-2 Inv-loop μ-loop
 returns-2 c = culprit-nowhere _ _ _ (c .loop-test .left) (c .before .loop .inv .0) (c .before .loop .inv .1)
 

@@ -4,91 +4,63 @@ use Rattle.picture.specs.Reading.{reading}
 use borrow.Author.Needs.{needs}
 use Rattle.picture.proofs.read.Statement.{statement}
 use Rattle.picture.proofs.read.Tie as tie
-use Rattle.picture.proofs.read.Reads as reads
-use Rattle.picture.proofs.read.Lts as lts
-use Rattle.picture.proofs.headers.count_wrong.Reads as count-wrong-reads
-use Rattle.picture.proofs.headers.edition_wrong.Reads as edition-wrong-reads
-use Rattle.picture.proofs.headers.header_at.Reads as header-at-reads
-use Rattle.picture.proofs.headers.length_wrong.Reads as length-wrong-reads
-use Rattle.picture.proofs.headers.offset_wrong.Reads as offset-wrong-reads
-use Rattle.picture.proofs.headers.total_wrong.Reads as total-wrong-reads
-use Rattle.picture.proofs.read_ports.Reads as read-ports-reads
-use Rattle.picture.proofs.refuse.Reads as refuse-reads
 
--- src/lib.rt:107:8
 length-wrong-requires : tie.Need-length-wrong-requires
 length-wrong-requires c κs = search needs
 
--- src/lib.rt:108:9
 refuse-requires : tie.Need-refuse-requires
 refuse-requires c κs = search needs
 
--- src/lib.rt:108:9
 returns : tie.Need-returns
 unfolding reading
 returns c = rw (← c .before .before .length-wrong .ensures, c .before .if1 .taken) (c .refuse .ensures)
 
--- src/lib.rt:110:9
 header-at-requires : tie.Need-header-at-requires
 header-at-requires c κs = search needs
 
--- src/lib.rt:111:8
 edition-wrong-requires : tie.Need-edition-wrong-requires
 edition-wrong-requires c κs = search needs
 
--- src/lib.rt:112:9
 refuse-requires-2 : tie.Need-refuse-requires-2
 refuse-requires-2 c κs = search needs
 
--- src/lib.rt:112:9
 returns-2 : tie.Need-returns-2
 unfolding reading
 returns-2 c = rw (← c .before .before .before .before .before .length-wrong .ensures, c .before .before .before .before .if1 .left, ← c .before .before .before .header-at .ensures, ← c .before .before .edition-wrong .ensures, c .before .if2 .taken) (c .refuse2 .ensures)
 
--- src/lib.rt:114:8
 count-wrong-requires : tie.Need-count-wrong-requires
 count-wrong-requires c κs = search needs
 
--- src/lib.rt:115:9
 refuse-requires-3 : tie.Need-refuse-requires-3
 refuse-requires-3 c κs = search needs
 
--- src/lib.rt:115:9
 returns-3 : tie.Need-returns-3
 unfolding reading
 returns-3 c = rw (← c .before .before .before .before .before .before .before .length-wrong .ensures, c .before .before .before .before .before .before .if1 .left, ← c .before .before .before .before .before .header-at .ensures, ← c .before .before .before .before .edition-wrong .ensures, c .before .before .before .if2 .left, ← c .before .before .count-wrong .ensures, c .before .if3 .taken) (c .refuse3 .ensures)
 
--- src/lib.rt:117:8
 total-wrong-requires : tie.Need-total-wrong-requires
 total-wrong-requires c κs = search needs
 
--- src/lib.rt:118:9
 refuse-requires-4 : tie.Need-refuse-requires-4
 refuse-requires-4 c κs = search needs
 
--- src/lib.rt:118:9
 returns-4 : tie.Need-returns-4
 unfolding reading
 returns-4 c = rw (← c .before .before .before .before .before .before .before .before .before .length-wrong .ensures, c .before .before .before .before .before .before .before .before .if1 .left, ← c .before .before .before .before .before .before .before .header-at .ensures, ← c .before .before .before .before .before .before .edition-wrong .ensures, c .before .before .before .before .before .if2 .left, ← c .before .before .before .before .count-wrong .ensures, c .before .before .before .if3 .left, ← c .before .before .total-wrong .ensures, c .before .if4 .taken) (c .refuse4 .ensures)
 
--- src/lib.rt:120:8
 offset-wrong-requires : tie.Need-offset-wrong-requires
 offset-wrong-requires c κs = search needs
 
--- src/lib.rt:121:9
 refuse-requires-5 : tie.Need-refuse-requires-5
 refuse-requires-5 c κs = search needs
 
--- src/lib.rt:121:9
 returns-5 : tie.Need-returns-5
 unfolding reading
 returns-5 c = rw (← c .before .before .before .before .before .before .before .before .before .before .before .length-wrong .ensures, c .before .before .before .before .before .before .before .before .before .before .if1 .left, ← c .before .before .before .before .before .before .before .before .before .header-at .ensures, ← c .before .before .before .before .before .before .before .before .edition-wrong .ensures, c .before .before .before .before .before .before .before .if2 .left, ← c .before .before .before .before .before .before .count-wrong .ensures, c .before .before .before .before .before .if3 .left, ← c .before .before .before .before .total-wrong .ensures, c .before .before .before .if4 .left, ← c .before .before .offset-wrong .ensures, c .before .if5 .taken) (c .refuse5 .ensures)
 
--- src/lib.rt:123:5
 read-ports-requires : tie.Need-read-ports-requires
 read-ports-requires c κs = (c .before .before .before .before .before .before .before .before .header-at .ensures, count-small _ (sym (c .before .before .before .before .before .count-wrong .ensures) ∙ c .before .before .before .before .if3 .left))
 
--- src/lib.rt:104:1
 returns-6 : tie.Need-returns-6
 unfolding reading
 returns-6 c = rw (← c .before .before .before .before .before .before .before .before .before .before .before .length-wrong .ensures, c .before .before .before .before .before .before .before .before .before .before .if1 .left, ← c .before .before .before .before .before .before .before .before .before .header-at .ensures, ← c .before .before .before .before .before .before .before .before .edition-wrong .ensures, c .before .before .before .before .before .before .before .if2 .left, ← c .before .before .before .before .before .before .count-wrong .ensures, c .before .before .before .before .before .if3 .left, ← c .before .before .before .before .total-wrong .ensures, c .before .before .before .if4 .left, ← c .before .before .offset-wrong .ensures, c .before .if5 .left) (c .read-ports .ensures)

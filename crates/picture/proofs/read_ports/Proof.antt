@@ -4,112 +4,85 @@ use mathlib.Core.Path.{sym, ap, _∙_}
 use borrow.Author.Needs.{needs}
 use Rattle.picture.proofs.read_ports.Statement.{statement}
 use Rattle.picture.proofs.read_ports.Tie as tie
-use Rattle.picture.proofs.read_ports.Reads as reads
-use Rattle.picture.proofs.read_ports.Lts as lts
-use Rattle.picture.proofs.layout.misplaced.Reads as misplaced-reads
-use Rattle.picture.proofs.lowest_culprit.Reads as lowest-culprit-reads
-use Rattle.picture.proofs.refuse.Reads as refuse-reads
 
--- src/lib.rt:84:13
 cast-n : tie.Need-cast-n
 cast-n c = search needs
 
--- src/lib.rt:85:31
 lowest-culprit-requires : tie.Need-lowest-culprit-requires
 lowest-culprit-requires c κs = search needs
 
--- src/lib.rt:85:26
 enum-known-p : tie.Need-enum-known-p
 enum-known-p c = search needs
 
--- src/lib.rt:86:9
 refuse-requires : tie.Need-refuse-requires
 refuse-requires c κs = search needs
 
--- src/lib.rt:86:9
 returns : tie.Need-returns
 returns c = c .refuse .ensures ∙ refused-6 _ _ (count-of _ _ (c .before .before .before .before .before .before .before .pre .0)) _ (sym (c .before .before .p .given .1) ∙ c .before .before .before .before .lowest-culprit .ensures)
 
 enum-told : tie.Need-enum-told
 enum-told c = search needs
 
--- src/lib.rt:88:31
 lowest-culprit-requires-2 : tie.Need-lowest-culprit-requires-2
 lowest-culprit-requires-2 c κs = search needs
 
--- src/lib.rt:88:26
 enum-known-p-2 : tie.Need-enum-known-p-2
 enum-known-p-2 c = search needs
 
--- src/lib.rt:89:9
 refuse-requires-2 : tie.Need-refuse-requires-2
 refuse-requires-2 c κs = search needs
 
--- src/lib.rt:89:9
 returns-2 : tie.Need-returns-2
 returns-2 c = c .refuse2 .ensures ∙ refused-7 _ _ (count-of _ _ (c .before .before .before .before .before .before .before .before .before .before .pre .0)) _ (sym (c .before .before .before .before .before .enum-told .given .1) ∙ c .before .before .before .before .before .before .before .lowest-culprit .ensures) (sym (c .before .before .p2 .given .1) ∙ c .before .before .before .before .lowest-culprit2 .ensures)
 
 enum-told-2 : tie.Need-enum-told-2
 enum-told-2 c = search needs
 
--- src/lib.rt:91:31
 lowest-culprit-requires-3 : tie.Need-lowest-culprit-requires-3
 lowest-culprit-requires-3 c κs = search needs
 
--- src/lib.rt:91:26
 enum-known-p-3 : tie.Need-enum-known-p-3
 enum-known-p-3 c = search needs
 
--- src/lib.rt:92:9
 refuse-requires-3 : tie.Need-refuse-requires-3
 refuse-requires-3 c κs = search needs
 
--- src/lib.rt:92:9
 returns-3 : tie.Need-returns-3
 returns-3 c = c .refuse3 .ensures ∙ refused-8 _ _ (count-of _ _ (c .before .before .before .before .before .before .before .before .before .before .before .before .before .pre .0)) _ (sym (c .before .before .before .before .before .before .before .before .enum-told .given .1) ∙ c .before .before .before .before .before .before .before .before .before .before .lowest-culprit .ensures) (sym (c .before .before .before .before .before .enum-told2 .given .1) ∙ c .before .before .before .before .before .before .before .lowest-culprit2 .ensures) (sym (c .before .before .p3 .given .1) ∙ c .before .before .before .before .lowest-culprit3 .ensures)
 
 enum-told-3 : tie.Need-enum-told-3
 enum-told-3 c = search needs
 
--- src/lib.rt:94:31
 lowest-culprit-requires-4 : tie.Need-lowest-culprit-requires-4
 lowest-culprit-requires-4 c κs = search needs
 
--- src/lib.rt:94:26
 enum-known-p-4 : tie.Need-enum-known-p-4
 enum-known-p-4 c = search needs
 
--- src/lib.rt:95:9
 refuse-requires-4 : tie.Need-refuse-requires-4
 refuse-requires-4 c κs = search needs
 
--- src/lib.rt:95:9
 returns-4 : tie.Need-returns-4
 returns-4 c = c .refuse4 .ensures ∙ refused-9 _ _ (count-of _ _ (c .before .before .before .before .before .before .before .before .before .before .before .before .before .before .before .before .pre .0)) _ (sym (c .before .before .before .before .before .before .before .before .before .before .before .enum-told .given .1) ∙ c .before .before .before .before .before .before .before .before .before .before .before .before .before .lowest-culprit .ensures) (sym (c .before .before .before .before .before .before .before .before .enum-told2 .given .1) ∙ c .before .before .before .before .before .before .before .before .before .before .lowest-culprit2 .ensures) (sym (c .before .before .before .before .before .enum-told3 .given .1) ∙ c .before .before .before .before .before .before .before .lowest-culprit3 .ensures) (sym (c .before .before .p4 .given .1) ∙ c .before .before .before .before .lowest-culprit4 .ensures)
 
 enum-told-4 : tie.Need-enum-told-4
 enum-told-4 c = search needs
 
--- src/lib.rt:97:31
 misplaced-requires : tie.Need-misplaced-requires
 misplaced-requires c κs = count-of _ _ (c .before .before .before .before .before .before .before .before .before .before .before .before .before .before .pre .0)
 
--- src/lib.rt:97:26
 enum-known-p-5 : tie.Need-enum-known-p-5
 enum-known-p-5 c = search needs
 
--- src/lib.rt:98:9
 refuse-requires-5 : tie.Need-refuse-requires-5
 refuse-requires-5 c κs = search needs
 
--- src/lib.rt:98:9
 returns-5 : tie.Need-returns-5
 returns-5 c = c .refuse5 .ensures ∙ refused-10 _ _ (count-of _ _ (c .before .before .before .before .before .before .before .before .before .before .before .before .before .before .before .before .before .before .before .pre .0)) _ (sym (c .before .before .before .before .before .before .before .before .before .before .before .before .before .before .enum-told .given .1) ∙ c .before .before .before .before .before .before .before .before .before .before .before .before .before .before .before .before .lowest-culprit .ensures) (sym (c .before .before .before .before .before .before .before .before .before .before .before .enum-told2 .given .1) ∙ c .before .before .before .before .before .before .before .before .before .before .before .before .before .lowest-culprit2 .ensures) (sym (c .before .before .before .before .before .before .before .before .enum-told3 .given .1) ∙ c .before .before .before .before .before .before .before .before .before .before .lowest-culprit3 .ensures) (sym (c .before .before .before .before .before .enum-told4 .given .1) ∙ c .before .before .before .before .before .before .before .lowest-culprit4 .ensures) (sym (c .before .before .p5 .given .1) ∙ c .before .before .before .before .misplaced .ensures)
 
 enum-told-5 : tie.Need-enum-told-5
 enum-told-5 c = search needs
 
--- src/lib.rt:79:1
 returns-6 : tie.Need-returns-6
 returns-6 c = ap Read (c .before .before .before .before .before .before .before .before .before .before .before .before .before .before .before .before .before .pre .0) ∙ read-whole _ _ (count-of _ _ (c .before .before .before .before .before .before .before .before .before .before .before .before .before .before .before .before .before .pre .0)) (sym (c .before .before .before .before .before .before .before .before .before .before .before .before .enum-told .given .1) ∙ c .before .before .before .before .before .before .before .before .before .before .before .before .before .before .lowest-culprit .ensures) (sym (c .before .before .before .before .before .before .before .before .before .enum-told2 .given .1) ∙ c .before .before .before .before .before .before .before .before .before .before .before .lowest-culprit2 .ensures) (sym (c .before .before .before .before .before .before .enum-told3 .given .1) ∙ c .before .before .before .before .before .before .before .before .lowest-culprit3 .ensures) (sym (c .before .before .before .enum-told4 .given .1) ∙ c .before .before .before .before .before .lowest-culprit4 .ensures) (sym (c .enum-told5 .given .1) ∙ c .before .before .misplaced .ensures)
 

@@ -2,93 +2,67 @@ use borrow.Author.Needs.{needs}
 use Rattle.registers.specs.Record.{bridgeAt}
 use Rattle.registers.proofs.bridge_at.Statement.{statement}
 use Rattle.registers.proofs.bridge_at.Tie as tie
-use Rattle.registers.proofs.bridge_at.Reads as reads
-use Rattle.registers.proofs.bridge_at.Lts as lts
-use Rattle.lent.proofs.u16_at.Reads as u16-at-reads
-use Rattle.lent.proofs.u32_at.Reads as u32-at-reads
-use Rattle.lent.proofs.u8_at.Reads as u8-at-reads
 
--- src/lib.rt:59:28
 add-u16-at : tie.Need-add-u16-at
 add-u16-at c = search needs
 
--- src/lib.rt:59:18
 u16-at-requires : tie.Need-u16-at-requires
 u16-at-requires c κs = search needs
 
--- src/lib.rt:60:29
 add-u8-at : tie.Need-add-u8-at
 add-u8-at c = search needs
 
--- src/lib.rt:60:20
 u8-at-requires : tie.Need-u8-at-requires
 u8-at-requires c κs = search needs
 
--- src/lib.rt:61:31
 add-u8-at-2 : tie.Need-add-u8-at-2
 add-u8-at-2 c = search needs
 
--- src/lib.rt:61:22
 u8-at-requires-2 : tie.Need-u8-at-requires-2
 u8-at-requires-2 c κs = search needs
 
--- src/lib.rt:62:32
 add-u16-at-2 : tie.Need-add-u16-at-2
 add-u16-at-2 c = search needs
 
--- src/lib.rt:62:22
 u16-at-requires-2 : tie.Need-u16-at-requires-2
 u16-at-requires-2 c κs = search needs
 
--- src/lib.rt:63:33
 add-u16-at-3 : tie.Need-add-u16-at-3
 add-u16-at-3 c = search needs
 
--- src/lib.rt:63:23
 u16-at-requires-3 : tie.Need-u16-at-requires-3
 u16-at-requires-3 c κs = search needs
 
--- src/lib.rt:64:38
 add-u16-at-4 : tie.Need-add-u16-at-4
 add-u16-at-4 c = search needs
 
--- src/lib.rt:64:28
 u16-at-requires-4 : tie.Need-u16-at-requires-4
 u16-at-requires-4 c κs = search needs
 
--- src/lib.rt:65:39
 add-u16-at-5 : tie.Need-add-u16-at-5
 add-u16-at-5 c = search needs
 
--- src/lib.rt:65:29
 u16-at-requires-5 : tie.Need-u16-at-requires-5
 u16-at-requires-5 c κs = search needs
 
--- src/lib.rt:66:44
 add-u32-at : tie.Need-add-u32-at
 add-u32-at c = search needs
 
--- src/lib.rt:66:34
 u32-at-requires : tie.Need-u32-at-requires
 u32-at-requires c κs = search needs
 
--- src/lib.rt:67:45
 add-u32-at-2 : tie.Need-add-u32-at-2
 add-u32-at-2 c = search needs
 
--- src/lib.rt:67:35
 u32-at-requires-2 : tie.Need-u32-at-requires-2
 u32-at-requires-2 c κs = search needs
 
--- src/lib.rt:68:35
 add-u16-at-6 : tie.Need-add-u16-at-6
 add-u16-at-6 c = search needs
 
--- src/lib.rt:68:25
 u16-at-requires-6 : tie.Need-u16-at-requires-6
 u16-at-requires-6 c κs = search needs
 
--- src/lib.rt:54:1
 returns : tie.Need-returns
 unfolding bridgeAt
 returns c = λ i.

@@ -2,59 +2,43 @@ use borrow.Author.Needs.{needs}
 use Rattle.registers.specs.Record.{fpbAt}
 use Rattle.registers.proofs.fpb_at.Statement.{statement}
 use Rattle.registers.proofs.fpb_at.Tie as tie
-use Rattle.registers.proofs.fpb_at.Reads as reads
-use Rattle.registers.proofs.fpb_at.Lts as lts
-use Rattle.lent.proofs.u32_at.Reads as u32-at-reads
 
--- src/lib.rt:77:33
 add-u32-at : tie.Need-add-u32-at
 add-u32-at c = search needs
 
--- src/lib.rt:77:23
 u32-at-requires : tie.Need-u32-at-requires
 u32-at-requires c κs = search needs
 
--- src/lib.rt:78:34
 add-u32-at-2 : tie.Need-add-u32-at-2
 add-u32-at-2 c = search needs
 
--- src/lib.rt:78:24
 u32-at-requires-2 : tie.Need-u32-at-requires-2
 u32-at-requires-2 c κs = search needs
 
--- src/lib.rt:79:34
 add-u32-at-3 : tie.Need-add-u32-at-3
 add-u32-at-3 c = search needs
 
--- src/lib.rt:79:24
 u32-at-requires-3 : tie.Need-u32-at-requires-3
 u32-at-requires-3 c κs = search needs
 
--- src/lib.rt:80:36
 add-u32-at-4 : tie.Need-add-u32-at-4
 add-u32-at-4 c = search needs
 
--- src/lib.rt:80:26
 u32-at-requires-4 : tie.Need-u32-at-requires-4
 u32-at-requires-4 c κs = search needs
 
--- src/lib.rt:81:39
 add-u32-at-5 : tie.Need-add-u32-at-5
 add-u32-at-5 c = search needs
 
--- src/lib.rt:81:29
 u32-at-requires-5 : tie.Need-u32-at-requires-5
 u32-at-requires-5 c κs = search needs
 
--- src/lib.rt:82:39
 add-u32-at-6 : tie.Need-add-u32-at-6
 add-u32-at-6 c = search needs
 
--- src/lib.rt:82:29
 u32-at-requires-6 : tie.Need-u32-at-requires-6
 u32-at-requires-6 c κs = search needs
 
--- src/lib.rt:72:1
 returns : tie.Need-returns
 unfolding fpbAt
 returns c = λ i.

@@ -2,71 +2,49 @@ use borrow.Author.Needs.{needs}
 use Rattle.registers.specs.Record.{portAt}
 use Rattle.registers.proofs.port_at.Statement.{statement}
 use Rattle.registers.proofs.port_at.Tie as tie
-use Rattle.registers.proofs.port_at.Reads as reads
-use Rattle.registers.proofs.port_at.Lts as lts
-use Rattle.lent.proofs.u16_at.Reads as u16-at-reads
-use Rattle.lent.proofs.u32_at.Reads as u32-at-reads
-use Rattle.lent.proofs.u8_at.Reads as u8-at-reads
-use Rattle.registers.proofs.bridge_at.Reads as bridge-at-reads
-use Rattle.registers.proofs.fpb_at.Reads as fpb-at-reads
 
--- src/lib.rt:90:24
 cast-r : tie.Need-cast-r
 cast-r c = search needs
 
--- src/lib.rt:90:18
 mul-r : tie.Need-mul-r
 mul-r c = search needs
 
--- src/lib.rt:90:13
 add-r : tie.Need-add-r
 add-r c = search needs
 
--- src/lib.rt:92:15
 u8-at-requires : tie.Need-u8-at-requires
 u8-at-requires c κs = search needs
 
--- src/lib.rt:93:33
 add-u8-at : tie.Need-add-u8-at
 add-u8-at c = search needs
 
--- src/lib.rt:93:24
 u8-at-requires-2 : tie.Need-u8-at-requires-2
 u8-at-requires-2 c κs = search needs
 
--- src/lib.rt:94:31
 add-u16-at : tie.Need-add-u16-at
 add-u16-at c = search needs
 
--- src/lib.rt:94:21
 u16-at-requires : tie.Need-u16-at-requires
 u16-at-requires c κs = search needs
 
--- src/lib.rt:95:37
 add-u16-at-2 : tie.Need-add-u16-at-2
 add-u16-at-2 c = search needs
 
--- src/lib.rt:95:27
 u16-at-requires-2 : tie.Need-u16-at-requires-2
 u16-at-requires-2 c κs = search needs
 
--- src/lib.rt:96:17
 bridge-at-requires : tie.Need-bridge-at-requires
 bridge-at-requires c κs = search needs
 
--- src/lib.rt:97:14
 fpb-at-requires : tie.Need-fpb-at-requires
 fpb-at-requires c κs = search needs
 
--- src/lib.rt:98:31
 add-u32-at : tie.Need-add-u32-at
 add-u32-at c = search needs
 
--- src/lib.rt:98:21
 u32-at-requires : tie.Need-u32-at-requires
 u32-at-requires c κs = search needs
 
--- src/lib.rt:87:1
 returns : tie.Need-returns
 unfolding portAt
 returns c = λ i.

@@ -5,11 +5,6 @@ use borrow.Author.Needs.{needs}
 use mathlib.Core.Path.{sym, _∙_}
 use Rattle.routes.proofs.walk_from.Statement.{statement}
 use Rattle.routes.proofs.walk_from.Tie as tie
-use Rattle.routes.proofs.walk_from.Reads as reads
-use Rattle.routes.proofs.walk_from.Lts as lts
-use Rattle.paths.proofs.Path.crossed.Reads as crossed-reads
-use Rattle.paths.proofs.Path.new.Reads as new-reads
-use Rattle.routes.proofs.steps.step.Reads as step-reads
 
 abbrev Inv-loop : tie.InvT-loop
 Inv-loop s n packet path₀ whereabouts₀ path whereabouts = Underway (chassisOf s) packet whereabouts₀ path whereabouts
@@ -17,39 +12,30 @@ Inv-loop s n packet path₀ whereabouts₀ path whereabouts = Underway (chassisO
 abbrev μ-loop : tie.MeasureT-loop
 μ-loop s n packet path₀ whereabouts₀ path whereabouts = left (chassisOf s) whereabouts
 
--- src/lib.rt:29:9
 new-requires : tie.Need-new-requires Inv-loop μ-loop
 new-requires c κs = tt
 
--- src/lib.rt:31:5
 loop-holds : tie.Need-loop-holds Inv-loop μ-loop
 loop-holds c = sets-out _ _ _ _ (c .new .ensures)
 
--- src/lib.rt:32:15
 step-requires : tie.Need-step-requires Inv-loop μ-loop
 step-requires c κs = c .before .before .before .pre .0
 
--- src/lib.rt:33:24
 enum-known-end : tie.Need-enum-known-end Inv-loop μ-loop
 enum-known-end c = search needs
 
--- src/lib.rt:33:32
 returns : tie.Need-returns Inv-loop μ-loop
 returns c = arrives (c .before .before .before .before .loop .inv) (sym (c .before .before .before .step .ensures) ∙ c .before .end .given .1)
 
--- src/lib.rt:34:25
 enum-known-p : tie.Need-enum-known-p Inv-loop μ-loop
 enum-known-p c = search needs
 
--- src/lib.rt:35:17
 crossed-requires : tie.Need-crossed-requires Inv-loop μ-loop
 crossed-requires c κs = room _ _ (c .before .before .before .before .before .before .before .pre .1 .0) (c .before .before .before .before .before .before .before .pre .1 .1) (c .before .before .before .before .loop .inv) (sym (c .before .before .before .step .ensures) ∙ c .before .p .given .1)
 
--- src/lib.rt:31:5
 loop-less : tie.Need-loop-less Inv-loop μ-loop
 loop-less c = nearer _ _ (c .before .before .before .before .before .before .before .before .pre .1 .0) (c .before .before .before .before .before .before .before .before .pre .1 .1) (c .before .before .before .before .before .loop .inv) (sym (c .before .before .before .before .step .ensures) ∙ c .before .before .p .given .1)
 
--- src/lib.rt:31:5
 loop-again : tie.Need-loop-again Inv-loop μ-loop
 loop-again c = goes-on _ _ (c .before .before .before .before .before .before .before .before .pre .1 .0) (c .before .before .before .before .before .before .before .before .pre .1 .1) (c .before .before .before .before .before .loop .inv) (sym (c .before .before .before .before .step .ensures) ∙ c .before .before .p .given .1) (c .crossed .ensures)
 

@@ -8,9 +8,6 @@ use mathlib.Core.Path.{_≡_, refl}
 use Prim.Native.Nat.{_≤_, _-_}
 use Rattle.trees.proofs.chain_too_long.Statement.{statement}
 use Rattle.trees.proofs.chain_too_long.Tie as tie
-use Rattle.trees.proofs.chain_too_long.Reads as reads
-use Rattle.trees.proofs.chain_too_long.Lts as lts
-use Rattle.trees.proofs.step_up.Reads as step-up-reads
 
 abbrev Inv-loop : tie.InvT-loop
 Inv-loop s q₀ k₀ q k = (k ≤ 16) × (q .0 ≡ above (treeOf s) k (q₀ .0))
@@ -18,29 +15,23 @@ Inv-loop s q₀ k₀ q k = (k ≤ 16) × (q .0 ≡ above (treeOf s) k (q₀ .0))
 abbrev μ-loop : tie.MeasureT-loop
 μ-loop s q₀ k₀ q k = 16 - k
 
--- src/tree.rt:76:5
 loop-holds : tie.Need-loop-holds Inv-loop μ-loop
 unfolding above
 loop-holds c = (search needs, refl)
 
--- src/tree.rt:77:9
 step-up-requires : tie.Need-step-up-requires Inv-loop μ-loop
 step-up-requires c κs = tt
 
--- src/tree.rt:78:9
 add-k : tie.Need-add-k Inv-loop μ-loop
 add-k c = omega arith
 
--- src/tree.rt:76:5
 loop-less : tie.Need-loop-less Inv-loop μ-loop
 loop-less c = omega arith
 
--- src/tree.rt:76:5
 loop-again : tie.Need-loop-again Inv-loop μ-loop
 unfolding above
 loop-again c = (omega arith, rw (add-one, ← c .before .before .loop .inv .1) (c .step-up .ensures))
 
--- src/tree.rt:71:1
 returns : tie.Need-returns Inv-loop μ-loop
 unfolding chainTooLong
 returns c = rw (c .before .before .loop .inv .1, le-antisymm (c .before .before .loop .inv .0) (c .before .loop-test .left))

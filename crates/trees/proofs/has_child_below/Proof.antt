@@ -8,9 +8,6 @@ use mathlib.Core.Path.{_≡_, refl}
 use Prim.Native.Nat.{_≤_, _-_}
 use Rattle.trees.proofs.has_child_below.Statement.{statement}
 use Rattle.trees.proofs.has_child_below.Tie as tie
-use Rattle.trees.proofs.has_child_below.Reads as reads
-use Rattle.trees.proofs.has_child_below.Lts as lts
-use Rattle.trees.proofs.parent_at.Reads as parent-at-reads
 
 abbrev Inv-loop : tie.InvT-loop
 Inv-loop s n q found₀ p₀ found p = (p ≤ n) × (found ≡ hasChildBelow (treeOf s) p (q .0))
@@ -18,29 +15,23 @@ Inv-loop s n q found₀ p₀ found p = (p ≤ n) × (found ≡ hasChildBelow (tr
 abbrev μ-loop : tie.MeasureT-loop
 μ-loop s n q found₀ p₀ found p = n - p
 
--- src/tree.rt:26:5
 loop-holds : tie.Need-loop-holds Inv-loop μ-loop
 unfolding anyBelow
 loop-holds c = (search needs, refl)
 
--- src/tree.rt:27:26
 parent-at-requires : tie.Need-parent-at-requires Inv-loop μ-loop
 parent-at-requires c κs = tt
 
--- src/tree.rt:28:9
 add-p : tie.Need-add-p Inv-loop μ-loop
 add-p c = omega arith
 
--- src/tree.rt:26:5
 loop-less : tie.Need-loop-less Inv-loop μ-loop
 loop-less c = omega arith
 
--- src/tree.rt:26:5
 loop-again : tie.Need-loop-again Inv-loop μ-loop
 unfolding anyBelow
 loop-again c = (omega arith, rw (add-one, c .before .before .before .before .loop .inv .1, c .before .before .parent-at .ensures))
 
--- src/tree.rt:21:1
 returns : tie.Need-returns Inv-loop μ-loop
 returns c = rw (← le-antisymm (c .before .loop .inv .0) (c .loop-test .left)) (c .before .loop .inv .1)
 

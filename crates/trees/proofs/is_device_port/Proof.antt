@@ -2,20 +2,13 @@ use Rattle.chassis.specs.Tree.{isDevicePort}
 use borrow.Author.Needs.{needs}
 use Rattle.trees.proofs.is_device_port.Statement.{statement}
 use Rattle.trees.proofs.is_device_port.Tie as tie
-use Rattle.trees.proofs.is_device_port.Reads as reads
-use Rattle.trees.proofs.is_device_port.Lts as lts
-use Rattle.trees.proofs.has_child_below.Reads as has-child-below-reads
-use Rattle.trees.proofs.kind_at.Reads as kind-at-reads
 
--- src/lib.rt:38:19
 kind-at-requires : tie.Need-kind-at-requires
 kind-at-requires c κs = search needs
 
--- src/lib.rt:38:42
 has-child-below-requires : tie.Need-has-child-below-requires
 has-child-below-requires c κs = search needs
 
--- src/lib.rt:34:1
 returns : tie.Need-returns
 unfolding isDevicePort
 returns c = rw (c .has-child-below .ensures, c .before .kind-at .ensures, c .before .before .before .before .pre)

@@ -2,27 +2,19 @@ use Rattle.registers.specs.Record.{portAt}
 use borrow.Author.Needs.{needs}
 use Rattle.trees.proofs.kind_at.Statement.{statement}
 use Rattle.trees.proofs.kind_at.Tie as tie
-use Rattle.trees.proofs.kind_at.Reads as reads
-use Rattle.trees.proofs.kind_at.Lts as lts
-use Rattle.lent.proofs.u8_at.Reads as u8-at-reads
 
--- src/tree.rt:11:31
 cast-u8-at : tie.Need-cast-u8-at
 cast-u8-at c = search needs
 
--- src/tree.rt:11:25
 mul-u8-at : tie.Need-mul-u8-at
 mul-u8-at c = search needs
 
--- src/tree.rt:11:20
 add-u8-at : tie.Need-add-u8-at
 add-u8-at c = search needs
 
--- src/tree.rt:11:5
 u8-at-requires : tie.Need-u8-at-requires
 u8-at-requires c κs = search needs
 
--- src/tree.rt:8:1
 returns : tie.Need-returns
 unfolding portAt
 returns c = c .u8-at .ensures

@@ -2,31 +2,22 @@ use Rattle.registers.specs.Record.{portAt}
 use borrow.Author.Needs.{needs}
 use Rattle.trees.proofs.parent_at.Statement.{statement}
 use Rattle.trees.proofs.parent_at.Tie as tie
-use Rattle.trees.proofs.parent_at.Reads as reads
-use Rattle.trees.proofs.parent_at.Lts as lts
-use Rattle.lent.proofs.u8_at.Reads as u8-at-reads
 
--- src/tree.rt:17:38
 cast-u8-at : tie.Need-cast-u8-at
 cast-u8-at c = search needs
 
--- src/tree.rt:17:32
 mul-u8-at : tie.Need-mul-u8-at
 mul-u8-at c = search needs
 
--- src/tree.rt:17:27
 add-u8-at : tie.Need-add-u8-at
 add-u8-at c = search needs
 
--- src/tree.rt:17:27
 add-u8-at-2 : tie.Need-add-u8-at-2
 add-u8-at-2 c = search needs
 
--- src/tree.rt:17:12
 u8-at-requires : tie.Need-u8-at-requires
 u8-at-requires c κs = search needs
 
--- src/tree.rt:14:1
 returns : tie.Need-returns
 unfolding portAt
 returns c = c .u8-at .ensures

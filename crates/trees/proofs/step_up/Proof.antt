@@ -3,20 +3,14 @@ use Rattle.chassis.specs.Tree.{oneAbove}
 use borrow.Author.Needs.{needs}
 use Rattle.trees.proofs.step_up.Statement.{statement}
 use Rattle.trees.proofs.step_up.Tie as tie
-use Rattle.trees.proofs.step_up.Reads as reads
-use Rattle.trees.proofs.step_up.Lts as lts
-use Rattle.trees.proofs.parent_at.Reads as parent-at-reads
 
--- src/lib.rt:66:9
 returns : tie.Need-returns
 unfolding oneAbove
 returns c = rw (eq-eqb _ _ (c .if1 .taken)) (c .if1 .taken)
 
--- src/lib.rt:68:5
 parent-at-requires : tie.Need-parent-at-requires
 parent-at-requires c κs = search needs
 
--- src/lib.rt:62:1
 returns-2 : tie.Need-returns-2
 unfolding oneAbove
 returns-2 c = rw (ne-eqb _ _ (c .before .if1 .left)) (c .parent-at .ensures)

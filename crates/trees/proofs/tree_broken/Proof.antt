@@ -3,40 +3,27 @@ use Rattle.chassis.specs.Tree.{treeBroken}
 use borrow.Author.Needs.{needs}
 use Rattle.trees.proofs.tree_broken.Statement.{statement}
 use Rattle.trees.proofs.tree_broken.Tie as tie
-use Rattle.trees.proofs.tree_broken.Reads as reads
-use Rattle.trees.proofs.tree_broken.Lts as lts
-use Rattle.trees.proofs.downstream_broken.Reads as downstream-broken-reads
-use Rattle.trees.proofs.kind_at.Reads as kind-at-reads
-use Rattle.trees.proofs.parent_at.Reads as parent-at-reads
-use Rattle.trees.proofs.upstream_broken.Reads as upstream-broken-reads
 
--- src/lib.rt:50:9
 kind-at-requires : tie.Need-kind-at-requires
 kind-at-requires c κs = search needs
 
--- src/lib.rt:51:9
 parent-at-requires : tie.Need-parent-at-requires
 parent-at-requires c κs = search needs
 
--- src/lib.rt:53:9
 returns : tie.Need-returns
 unfolding treeBroken
 returns c = rw (← c .before .before .before .kind-at .ensures, eq-eqb _ _ (c .before .if1 .taken), ← c .before .before .parent-at .ensures)
 
--- src/lib.rt:56:36
 upstream-broken-requires : tie.Need-upstream-broken-requires
 upstream-broken-requires c κs = search needs
 
--- src/lib.rt:56:9
 returns-2 : tie.Need-returns-2
 unfolding treeBroken
 returns-2 c = rw (← c .before .before .before .before .before .before .kind-at .ensures, ne-eqb _ _ (c .before .before .before .before .if1 .left), eq-eqb _ _ (c .before .before .before .if2 .taken), ← c .before .before .before .before .before .parent-at .ensures, ← c .upstream-broken .ensures)
 
--- src/lib.rt:58:41
 downstream-broken-requires : tie.Need-downstream-broken-requires
 downstream-broken-requires c κs = search needs
 
--- src/lib.rt:47:1
 returns-3 : tie.Need-returns-3
 unfolding treeBroken
 returns-3 c = rw (← c .before .before .before .before .before .before .kind-at .ensures, ne-eqb _ _ (c .before .before .before .before .if1 .left), ne-eqb _ _ (c .before .before .before .if2 .left), ← c .before .before .before .before .before .parent-at .ensures, ← c .downstream-broken .ensures)

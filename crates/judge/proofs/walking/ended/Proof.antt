@@ -2,10 +2,7 @@ use Rattle.judge.specs.Walking.{endedWalk}
 use mathlib.Core.Path.{refl}
 use Rattle.judge.proofs.walking.ended.Statement.{statement}
 use Rattle.judge.proofs.walking.ended.Tie as tie
-use Rattle.judge.proofs.walking.ended.Reads as reads
-use Rattle.judge.proofs.walking.ended.Lts as lts
 
--- src/walking.rt:85:1
 returns : tie.Need-returns
 unfolding endedWalk
 returns c = refl

@@ -2,10 +2,7 @@ use Rattle.judge.specs.Walking.{idTooLarge}
 use mathlib.Core.Path.{refl}
 use Rattle.judge.proofs.walking.id_too_large.Statement.{statement}
 use Rattle.judge.proofs.walking.id_too_large.Tie as tie
-use Rattle.judge.proofs.walking.id_too_large.Reads as reads
-use Rattle.judge.proofs.walking.id_too_large.Lts as lts
 
--- src/walking.rt:22:1
 returns : tie.Need-returns
 unfolding idTooLarge
 returns c = refl

@@ -4,29 +4,21 @@ use Rattle.judge.specs.Walking.{isStart}
 use borrow.Author.Needs.{needs}
 use Rattle.judge.proofs.walking.is_start.Statement.{statement}
 use Rattle.judge.proofs.walking.is_start.Tie as tie
-use Rattle.judge.proofs.walking.is_start.Reads as reads
-use Rattle.judge.proofs.walking.is_start.Lts as lts
-use Rattle.trees.proofs.is_device_port.Reads as is-device-port-reads
 
--- src/walking.rt:49:9
 returns : tie.Need-returns
 unfolding isStart
 returns c = rw (eq-eqb _ _ (c .if1 .taken))
 
--- src/walking.rt:53:9
 returns-2 : tie.Need-returns-2
 unfolding isStart isDevicePort
 returns-2 c = rw (ne-eqb _ _ (c .before .if1 .left), ← c .before .before .before .pre, le-ltb _ _ (c .if2 .taken))
 
--- src/walking.rt:55:40
 cast-t6 : tie.Need-cast-t6
 cast-t6 c = search needs
 
--- src/walking.rt:55:5
 is-device-port-requires : tie.Need-is-device-port-requires
 is-device-port-requires c κs = search needs
 
--- src/walking.rt:44:1
 returns-3 : tie.Need-returns-3
 unfolding isStart
 returns-3 c = rw (ne-eqb _ _ (c .before .before .if1 .left)) (c .is-device-port .ensures)

@@ -3,24 +3,18 @@ use borrow.Author.Tests.{eq-eqb, ne-eqb}
 use Rattle.judge.specs.Walking.{packetOf}
 use Rattle.judge.proofs.walking.packet_of.Statement.{statement}
 use Rattle.judge.proofs.walking.packet_of.Tie as tie
-use Rattle.judge.proofs.walking.packet_of.Reads as reads
-use Rattle.judge.proofs.walking.packet_of.Lts as lts
 
--- src/walking.rt:34:9
 returns : tie.Need-returns
 unfolding packetOf
 returns c = rw (eq-eqb _ _ (c .if1 .taken))
 
--- src/walking.rt:36:19
 cast-t6 : tie.Need-cast-t6
 cast-t6 c = record { fits = id-small _ _ (c .if1 .left) (c .before .pre) }
 
--- src/walking.rt:38:9
 returns-2 : tie.Need-returns-2
 unfolding packetOf
 returns-2 c = rw (ne-eqb _ _ (c .before .if1 .left), eq-eqb _ _ (c .if2 .taken))
 
--- src/walking.rt:29:1
 returns-3 : tie.Need-returns-3
 unfolding packetOf
 returns-3 c = rw (ne-eqb _ _ (c .before .if1 .left), ne-eqb _ _ (c .if2 .left))

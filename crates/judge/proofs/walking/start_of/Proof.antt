@@ -3,19 +3,14 @@ use Rattle.chassis.specs.Walk.{comeTo}
 use borrow.Author.Needs.{needs}
 use Rattle.judge.proofs.walking.start_of.Statement.{statement}
 use Rattle.judge.proofs.walking.start_of.Tie as tie
-use Rattle.judge.proofs.walking.start_of.Reads as reads
-use Rattle.judge.proofs.walking.start_of.Lts as lts
 
--- src/walking.rt:71:9
 returns : tie.Need-returns
 unfolding comeTo
 returns c = rw (eq-eqb _ _ (c .if1 .taken))
 
--- src/walking.rt:73:30
 cast-t3 : tie.Need-cast-t3
 cast-t3 c = search needs
 
--- src/walking.rt:66:1
 returns-2 : tie.Need-returns-2
 unfolding comeTo
 returns-2 c = rw (ne-eqb _ _ (c .if1 .left))

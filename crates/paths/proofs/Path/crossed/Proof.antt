@@ -3,18 +3,13 @@ use mathlib.Core.Path.{refl}
 use borrow.Author.Needs.{needs}
 use Rattle.paths.proofs.Path.crossed.Statement.{statement}
 use Rattle.paths.proofs.Path.crossed.Tie as tie
-use Rattle.paths.proofs.Path.crossed.Reads as reads
-use Rattle.paths.proofs.Path.crossed.Lts as lts
 
--- src/lib.rt:30:9
 element-set-from-p : tie.Need-element-set-from-p
 element-set-from-p c = search needs
 
--- src/lib.rt:31:22
 add-self : tie.Need-add-self
 add-self c = search needs
 
--- src/lib.rt:25:5
 returns : tie.Need-returns
 unfolding extended
 returns c = refl

@@ -2,10 +2,7 @@ use Rattle.paths.specs.Paths.{pathOf}
 use mathlib.Core.Path.{refl}
 use Rattle.paths.proofs.Path.new.Statement.{statement}
 use Rattle.paths.proofs.Path.new.Tie as tie
-use Rattle.paths.proofs.Path.new.Reads as reads
-use Rattle.paths.proofs.Path.new.Lts as lts
 
--- src/lib.rt:15:5
 returns : tie.Need-returns
 unfolding pathOf
 returns c = refl

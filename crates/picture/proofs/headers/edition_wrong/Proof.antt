@@ -2,10 +2,7 @@ use mathlib.Core.Path.{refl}
 use Rattle.picture.specs.Header.{editionWrong}
 use Rattle.picture.proofs.headers.edition_wrong.Statement.{statement}
 use Rattle.picture.proofs.headers.edition_wrong.Tie as tie
-use Rattle.picture.proofs.headers.edition_wrong.Reads as reads
-use Rattle.picture.proofs.headers.edition_wrong.Lts as lts
 
--- src/headers.rt:26:1
 returns : tie.Need-returns
 unfolding editionWrong
 returns c = refl

@@ -2,32 +2,22 @@ use Rattle.picture.specs.Header.{headerOf}
 use borrow.Author.Needs.{needs}
 use Rattle.picture.proofs.headers.header_at.Statement.{statement}
 use Rattle.picture.proofs.headers.header_at.Tie as tie
-use Rattle.picture.proofs.headers.header_at.Reads as reads
-use Rattle.picture.proofs.headers.header_at.Lts as lts
-use Rattle.lent.proofs.u16_at.Reads as u16-at-reads
-use Rattle.lent.proofs.u32_at.Reads as u32-at-reads
 
--- src/headers.rt:12:18
 u16-at-requires : tie.Need-u16-at-requires
 u16-at-requires c κs = search needs
 
--- src/headers.rt:13:16
 u16-at-requires-2 : tie.Need-u16-at-requires-2
 u16-at-requires-2 c κs = search needs
 
--- src/headers.rt:14:16
 u32-at-requires : tie.Need-u32-at-requires
 u32-at-requires c κs = search needs
 
--- src/headers.rt:15:21
 u32-at-requires-2 : tie.Need-u32-at-requires-2
 u32-at-requires-2 c κs = search needs
 
--- src/headers.rt:16:21
 u32-at-requires-3 : tie.Need-u32-at-requires-3
 u32-at-requires-3 c κs = search needs
 
--- src/headers.rt:8:1
 returns : tie.Need-returns
 unfolding headerOf
 returns c =

@@ -2,10 +2,7 @@ use mathlib.Core.Path.{refl}
 use Rattle.picture.specs.Header.{lengthWrong}
 use Rattle.picture.proofs.headers.length_wrong.Statement.{statement}
 use Rattle.picture.proofs.headers.length_wrong.Tie as tie
-use Rattle.picture.proofs.headers.length_wrong.Reads as reads
-use Rattle.picture.proofs.headers.length_wrong.Lts as lts
 
--- src/headers.rt:20:1
 returns : tie.Need-returns
 unfolding lengthWrong
 returns c = refl

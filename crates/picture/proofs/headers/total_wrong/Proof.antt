@@ -3,14 +3,10 @@ use Rattle.picture.specs.Header.{totalWrong}
 use borrow.Author.Needs.{needs}
 use Rattle.picture.proofs.headers.total_wrong.Statement.{statement}
 use Rattle.picture.proofs.headers.total_wrong.Tie as tie
-use Rattle.picture.proofs.headers.total_wrong.Reads as reads
-use Rattle.picture.proofs.headers.total_wrong.Lts as lts
 
--- src/headers.rt:41:7
 cast-result : tie.Need-cast-result
 cast-result c = search needs
 
--- src/headers.rt:38:1
 returns : tie.Need-returns
 unfolding totalWrong
 returns c = refl

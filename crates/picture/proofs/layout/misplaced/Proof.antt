@@ -5,14 +5,10 @@ use mathlib.Core.Path.{_∙_}
 use Rattle.picture.specs.Layout.{runningOffset, placeWrong}
 use Rattle.least.proofs.Laws.{NoneIn, none-empty, none-more}
 use native.Mathlib.Omega.{arith}
-use mathlib.Core.Path.{_≡_, refl}
+use mathlib.Core.Path.{_≡_}
 use Prim.Native.Nat.{_≤_, _-_, _+_, _*_}
 use Rattle.picture.proofs.layout.misplaced.Statement.{statement}
 use Rattle.picture.proofs.layout.misplaced.Tie as tie
-use Rattle.picture.proofs.layout.misplaced.Reads as reads
-use Rattle.picture.proofs.layout.misplaced.Lts as lts
-use Rattle.picture.proofs.layout.all_bytes.Reads as all-bytes-reads
-use Rattle.registers.proofs.port_at.Reads as port-at-reads
 
 abbrev Inv-loop : tie.InvT-loop
 Inv-loop s n offset₀ p₀ offset p =
@@ -21,51 +17,40 @@ Inv-loop s n offset₀ p₀ offset p =
 abbrev μ-loop : tie.MeasureT-loop
 μ-loop s n offset₀ p₀ offset p = n - p
 
--- src/layout.rt:27:32
 mul-offset : tie.Need-mul-offset Inv-loop μ-loop
 mul-offset c = omega arith
 
--- src/layout.rt:27:27
 add-offset : tie.Need-add-offset Inv-loop μ-loop
 add-offset c = omega arith
 
--- src/layout.rt:29:5
 loop-holds : tie.Need-loop-holds Inv-loop μ-loop
 unfolding runningOffset
 loop-holds c = (omega arith, rw (c .before .pre), omega arith, none-empty (omega arith))
 
--- src/layout.rt:30:13
 port-at-requires : tie.Need-port-at-requires Inv-loop μ-loop
 port-at-requires c κs = tt
 
--- src/layout.rt:31:12
 cast-if1 : tie.Need-cast-if1 Inv-loop μ-loop
 cast-if1 c = omega (arith, c .struct-known .given)
 
--- src/layout.rt:32:13
 returns : tie.Need-returns Inv-loop μ-loop
 returns c =
     misplaced-here _ _ (rw (← c .before .before .before .before .before .before .pre) (c .before .before .before .loop-test .taken))
     (place-wrong _ _ _ _ (c .before .before .port-at .ensures) (c .before .before .before .before .loop .inv .1) (c .if1 .taken))
     (c .before .before .before .before .loop .inv .3)
 
--- src/layout.rt:35:19
 all-bytes-requires : tie.Need-all-bytes-requires Inv-loop μ-loop
 all-bytes-requires c κs = tt
 
--- src/layout.rt:35:9
 add-offset-2 : tie.Need-add-offset-2 Inv-loop μ-loop
 add-offset-2 c = omega arith
 
--- src/layout.rt:36:9
 add-p : tie.Need-add-p Inv-loop μ-loop
 add-p c = omega arith
 
--- src/layout.rt:29:5
 loop-less : tie.Need-loop-less Inv-loop μ-loop
 loop-less c = omega arith
 
--- src/layout.rt:29:5
 loop-again : tie.Need-loop-again Inv-loop μ-loop
 unfolding runningOffset
 loop-again c = (
@@ -76,13 +61,11 @@ loop-again c = (
       (place-kept _ _ _ _ (c .before .before .before .before .port-at .ensures) (c .before .before .before .before .before .before .loop .inv .1) (c .before .before .if1 .left)),
 )
 
--- src/layout.rt:39:9
 returns-2 : tie.Need-returns-2 Inv-loop μ-loop
 returns-2 c =
     misplaced-end _ _ _ (le-antisymm (c .before .before .loop .inv .0) (c .before .loop-test .left) ∙ c .before .before .before .before .pre)
     (c .before .before .loop .inv .1) (c .before .before .loop .inv .3) (c .if2 .taken)
 
--- src/layout.rt:23:1
 returns-3 : tie.Need-returns-3 Inv-loop μ-loop
 returns-3 c =
     misplaced-nowhere _ _ _ (le-antisymm (c .before .before .loop .inv .0) (c .before .loop-test .left) ∙ c .before .before .before .before .pre)

@@ -2,47 +2,34 @@ use native.Mathlib.Omega.{arith}
 use borrow.Author.Needs.{needs}
 use Rattle.picture.proofs.layout.offset_in.Statement.{statement}
 use Rattle.picture.proofs.layout.offset_in.Tie as tie
-use Rattle.picture.proofs.layout.offset_in.Reads as reads
-use Rattle.picture.proofs.layout.offset_in.Lts as lts
-use Rattle.registers.proofs.vector_bytes.Reads as vector-bytes-reads
 
--- src/layout.rt:50:27
 enum-told : tie.Need-enum-told
 enum-told c = search needs
 
--- src/layout.rt:51:43
 enum-told-2 : tie.Need-enum-told-2
 enum-told-2 c = search needs
 
--- src/layout.rt:51:27
 vector-bytes-requires : tie.Need-vector-bytes-requires
 vector-bytes-requires c κs = search needs
 
--- src/layout.rt:52:44
 enum-told-3 : tie.Need-enum-told-3
 enum-told-3 c = search needs
 
--- src/layout.rt:52:28
 vector-bytes-requires-2 : tie.Need-vector-bytes-requires-2
 vector-bytes-requires-2 c κs = search needs
 
--- src/layout.rt:52:62
 vector-bytes-requires-3 : tie.Need-vector-bytes-requires-3
 vector-bytes-requires-3 c κs = search needs
 
--- src/layout.rt:52:28
 add-result : tie.Need-add-result
 add-result c = search needs
 
--- src/layout.rt:45:1
 returns : tie.Need-returns
 returns c = search needs
 
--- src/layout.rt:45:1
 returns-2 : tie.Need-returns-2
 returns-2 c = (rw (c .before .enum-told2 .given .1) (c .vector-bytes .ensures .0), omega arith)
 
--- src/layout.rt:45:1
 returns-3 : tie.Need-returns-3
 returns-3 c = (rw (c .before .before .enum-told3 .given .1, c .before .vector-bytes2 .ensures .0, c .vector-bytes3 .ensures .0), omega arith)
 

@@ -1,66 +1,49 @@
 use borrow.Author.Needs.{needs}
 use Rattle.registers.proofs.fields.start.Statement.{statement}
 use Rattle.registers.proofs.fields.start.Tie as tie
-use Rattle.registers.proofs.fields.start.Reads as reads
-use Rattle.registers.proofs.fields.start.Lts as lts
 
--- src/fields.rt:59:29
 enum-told : tie.Need-enum-told
 enum-told c = search needs
 
--- src/fields.rt:59:27
 cast-result : tie.Need-cast-result
 cast-result c = search needs
 
--- src/fields.rt:59:27
 mul-result : tie.Need-mul-result
 mul-result c = search needs
 
--- src/fields.rt:60:29
 enum-told-2 : tie.Need-enum-told-2
 enum-told-2 c = search needs
 
--- src/fields.rt:60:27
 cast-result-2 : tie.Need-cast-result-2
 cast-result-2 c = search needs
 
--- src/fields.rt:60:27
 mul-result-2 : tie.Need-mul-result-2
 mul-result-2 c = search needs
 
--- src/fields.rt:62:14
 enum-told-3 : tie.Need-enum-told-3
 enum-told-3 c = search needs
 
--- src/fields.rt:62:14
 cast-result-3 : tie.Need-cast-result-3
 cast-result-3 c = search needs
 
--- src/fields.rt:62:14
 mul-result-3 : tie.Need-mul-result-3
 mul-result-3 c = search needs
 
--- src/fields.rt:62:49
 cast-result-4 : tie.Need-cast-result-4
 cast-result-4 c = search needs
 
--- src/fields.rt:62:14
 add-result : tie.Need-add-result
 add-result c = search needs
 
--- src/fields.rt:62:13
 mul-result-4 : tie.Need-mul-result-4
 mul-result-4 c = search needs
 
--- src/fields.rt:55:1
 returns : tie.Need-returns
 returns c = rw (c .before .enum-told .given .1)
 
--- src/fields.rt:55:1
 returns-2 : tie.Need-returns-2
 returns-2 c = rw (c .before .enum-told2 .given .1)
 
--- src/fields.rt:55:1
 returns-3 : tie.Need-returns-3
 returns-3 c = rw (c .before .before .enum-told3 .given .1)
 

@@ -1,30 +1,22 @@
 use borrow.Author.Needs.{needs}
 use Rattle.registers.proofs.fields.supported.Statement.{statement}
 use Rattle.registers.proofs.fields.supported.Tie as tie
-use Rattle.registers.proofs.fields.supported.Reads as reads
-use Rattle.registers.proofs.fields.supported.Lts as lts
 
--- src/fields.rt:13:28
 enum-told : tie.Need-enum-told
 enum-told c = search needs
 
--- src/fields.rt:14:28
 enum-told-2 : tie.Need-enum-told-2
 enum-told-2 c = search needs
 
--- src/fields.rt:15:29
 enum-told-3 : tie.Need-enum-told-3
 enum-told-3 c = search needs
 
--- src/fields.rt:9:1
 returns : tie.Need-returns
 returns c = rw (c .before .enum-told .given .1)
 
--- src/fields.rt:9:1
 returns-2 : tie.Need-returns-2
 returns-2 c = rw (c .before .enum-told2 .given .1)
 
--- src/fields.rt:9:1
 returns-3 : tie.Need-returns-3
 returns-3 c = rw (c .before .enum-told3 .given .1)
 

@@ -3,25 +3,17 @@ use borrow.Author.Needs.{needs}
 use Rattle.registers.specs.Vectors.{vectorBytes}
 use Rattle.registers.proofs.fields.vector_bytes.Statement.{statement}
 use Rattle.registers.proofs.fields.vector_bytes.Tie as tie
-use Rattle.registers.proofs.fields.vector_bytes.Reads as reads
-use Rattle.registers.proofs.fields.vector_bytes.Lts as lts
-use Rattle.registers.proofs.fields.size.Reads as size-reads
-use Rattle.registers.proofs.fields.supported.Reads as supported-reads
 
--- src/fields.rt:101:8
 supported-requires : tie.Need-supported-requires
 supported-requires c κs = search needs
 
--- src/fields.rt:101:26
 size-requires : tie.Need-size-requires
 size-requires c κs = search needs
 
--- src/fields.rt:98:1
 returns : tie.Need-returns
 unfolding vectorBytes
 returns c = (rw (← c .before .before .supported .ensures, c .before .if1 .taken, c .size .ensures .0), omega arith)
 
--- src/fields.rt:98:1
 returns-2 : tie.Need-returns-2
 unfolding vectorBytes
 returns-2 c = (rw (← c .before .supported .ensures, c .if1 .left), omega arith)

@@ -2,46 +2,33 @@ use borrow.Author.Needs.{needs}
 use Rattle.registers.specs.Rules.{granularityAllowed}
 use Rattle.registers.proofs.rules.granularity_allowed.Statement.{statement}
 use Rattle.registers.proofs.rules.granularity_allowed.Tie as tie
-use Rattle.registers.proofs.rules.granularity_allowed.Reads as reads
-use Rattle.registers.proofs.rules.granularity_allowed.Lts as lts
-use Rattle.registers.proofs.fields.granularity_code.Reads as granularity-code-reads
-use Rattle.registers.proofs.fields.size_code.Reads as size-code-reads
 
--- src/rules.rt:28:9
 size-code-requires : tie.Need-size-code-requires
 size-code-requires c κs = search needs
 
--- src/rules.rt:29:9
 granularity-code-requires : tie.Need-granularity-code-requires
 granularity-code-requires c κs = search needs
 
--- src/rules.rt:32:14
 enum-told : tie.Need-enum-told
 enum-told c = search needs
 
--- src/rules.rt:34:27
 enum-told-2 : tie.Need-enum-told-2
 enum-told-2 c = search needs
 
--- src/rules.rt:34:27
 add-result : tie.Need-add-result
 add-result c = search needs
 
--- src/rules.rt:35:28
 enum-told-3 : tie.Need-enum-told-3
 enum-told-3 c = search needs
 
--- src/rules.rt:25:1
 returns : tie.Need-returns
 unfolding granularityAllowed
 returns c = rw (c .before .before .before .size-code .ensures .0, c .before .before .granularity-code .ensures .0, c .enum-told .given .1)
 
--- src/rules.rt:25:1
 returns-2 : tie.Need-returns-2
 unfolding granularityAllowed
 returns-2 c = rw (c .before .before .before .size-code .ensures .0, c .before .before .granularity-code .ensures .0, c .enum-told2 .given .1)
 
--- src/rules.rt:25:1
 returns-3 : tie.Need-returns-3
 unfolding granularityAllowed
 returns-3 c = rw (c .before .before .granularity-code .ensures .0, c .enum-told3 .given .1)

@@ -3,14 +3,10 @@ use Rattle.registers.proofs.Laws.{granule-whole}
 use borrow.Author.Needs.{needs}
 use Rattle.registers.proofs.rules.granule.Statement.{statement}
 use Rattle.registers.proofs.rules.granule.Tie as tie
-use Rattle.registers.proofs.rules.granule.Reads as reads
-use Rattle.registers.proofs.rules.granule.Lts as lts
 
--- src/rules.rt:82:5
 shl-result : tie.Need-shl-result
 shl-result c = search needs
 
--- src/rules.rt:77:1
 returns : tie.Need-returns
 returns c = (granule-whole _ (c .pre), rw (granule-whole _ (c .pre)) (pow-pos _))
 

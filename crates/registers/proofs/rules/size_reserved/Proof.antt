@@ -2,37 +2,27 @@ use borrow.Author.Needs.{needs}
 use Rattle.registers.specs.Rules.{sizeReserved}
 use Rattle.registers.proofs.rules.size_reserved.Statement.{statement}
 use Rattle.registers.proofs.rules.size_reserved.Tie as tie
-use Rattle.registers.proofs.rules.size_reserved.Reads as reads
-use Rattle.registers.proofs.rules.size_reserved.Lts as lts
-use Rattle.registers.proofs.fields.size_code.Reads as size-code-reads
 
--- src/rules.rt:17:9
 size-code-requires : tie.Need-size-code-requires
 size-code-requires c κs = search needs
 
--- src/rules.rt:19:30
 enum-told : tie.Need-enum-told
 enum-told c = search needs
 
--- src/rules.rt:20:27
 enum-told-2 : tie.Need-enum-told-2
 enum-told-2 c = search needs
 
--- src/rules.rt:21:28
 enum-told-3 : tie.Need-enum-told-3
 enum-told-3 c = search needs
 
--- src/rules.rt:14:1
 returns : tie.Need-returns
 unfolding sizeReserved
 returns c = rw (c .before .before .size-code .ensures .0, c .enum-told .given .1)
 
--- src/rules.rt:14:1
 returns-2 : tie.Need-returns-2
 unfolding sizeReserved
 returns-2 c = rw (c .before .before .size-code .ensures .0, c .enum-told2 .given .1)
 
--- src/rules.rt:14:1
 returns-3 : tie.Need-returns-3
 unfolding sizeReserved
 returns-3 c = rw (c .before .before .size-code .ensures .0, c .enum-told3 .given .1)

@@ -2,10 +2,7 @@ use mathlib.Core.Path.{refl}
 use Rattle.registers.specs.Rules.{withAri}
 use Rattle.registers.proofs.rules.with_ari.Statement.{statement}
 use Rattle.registers.proofs.rules.with_ari.Tie as tie
-use Rattle.registers.proofs.rules.with_ari.Reads as reads
-use Rattle.registers.proofs.rules.with_ari.Lts as lts
 
--- src/rules.rt:69:1
 returns : tie.Need-returns
 unfolding withAri
 returns c = refl

@@ -2,47 +2,33 @@ use Rattle.chassis.specs.Walk.{byHolders}
 use borrow.Author.Needs.{needs}
 use Rattle.routes.proofs.steps.at_root.Statement.{statement}
 use Rattle.routes.proofs.steps.at_root.Tie as tie
-use Rattle.routes.proofs.steps.at_root.Reads as reads
-use Rattle.routes.proofs.steps.at_root.Lts as lts
-use Rattle.holders.proofs.lowest_at.Reads as lowest-at-reads
-use Rattle.routes.proofs.steps.sole_holder.Reads as sole-holder-reads
-use Rattle.routes.proofs.steps.target_of.Reads as target-of-reads
 
--- src/steps.rt:111:40
 target-of-requires : tie.Need-target-of-requires
 target-of-requires c κs = search needs
 
--- src/steps.rt:111:11
 lowest-at-requires : tie.Need-lowest-at-requires
 lowest-at-requires c κs = search needs
 
--- src/steps.rt:112:39
 enum-told : tie.Need-enum-told
 enum-told c = search needs
 
--- src/steps.rt:113:23
 enum-known-p : tie.Need-enum-known-p
 enum-known-p c = search needs
 
--- src/steps.rt:113:29
 sole-holder-requires : tie.Need-sole-holder-requires
 sole-holder-requires c κs = search needs
 
--- src/steps.rt:114:23
 enum-known-p-2 : tie.Need-enum-known-p-2
 enum-known-p-2 c = search needs
 
--- src/steps.rt:107:1
 returns : tie.Need-returns
 unfolding byHolders
 returns c = rw (← c .before .before .before .target-of .ensures, ← c .before .before .lowest-at .ensures, c .enum-told .given .1)
 
--- src/steps.rt:107:1
 returns-2 : tie.Need-returns-2
 unfolding byHolders
 returns-2 c = rw (← c .before .before .before .before .before .target-of .ensures, ← c .before .before .before .before .lowest-at .ensures, c .before .before .p .given .1) (c .sole-holder .ensures)
 
--- src/steps.rt:107:1
 returns-3 : tie.Need-returns-3
 unfolding byHolders
 returns-3 c = rw (← c .before .before .before .before .target-of .ensures, ← c .before .before .before .lowest-at .ensures, c .before .p2 .given .1)

@@ -2,15 +2,11 @@ use borrow.Author.Tests.{eq-eqb, ne-eqb}
 use Rattle.chassis.specs.Walk.{comeTo}
 use Rattle.routes.proofs.steps.come_to.Statement.{statement}
 use Rattle.routes.proofs.steps.come_to.Tie as tie
-use Rattle.routes.proofs.steps.come_to.Reads as reads
-use Rattle.routes.proofs.steps.come_to.Lts as lts
 
--- src/steps.rt:86:1
 returns : tie.Need-returns
 unfolding comeTo
 returns c = rw (eq-eqb _ _ (c .if1 .taken))
 
--- src/steps.rt:86:1
 returns-2 : tie.Need-returns-2
 unfolding comeTo
 returns-2 c = rw (ne-eqb _ _ (c .if1 .left))

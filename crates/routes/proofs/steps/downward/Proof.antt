@@ -2,33 +2,23 @@ use Rattle.chassis.specs.Walk.{downward}
 use borrow.Author.Needs.{needs}
 use Rattle.routes.proofs.steps.downward.Statement.{statement}
 use Rattle.routes.proofs.steps.downward.Tie as tie
-use Rattle.routes.proofs.steps.downward.Reads as reads
-use Rattle.routes.proofs.steps.downward.Lts as lts
-use Rattle.claims.proofs.conversion.Reads as conversion-reads
-use Rattle.routes.proofs.steps.decide.Reads as decide-reads
 
--- src/steps.rt:59:44
 enum-told : tie.Need-enum-told
 enum-told c = search needs
 
--- src/steps.rt:60:24
 enum-known-packet : tie.Need-enum-known-packet
 enum-known-packet c = search needs
 
--- src/steps.rt:60:42
 conversion-requires : tie.Need-conversion-requires
 conversion-requires c κs = search needs
 
--- src/steps.rt:60:32
 decide-requires : tie.Need-decide-requires
 decide-requires c κs = search needs
 
--- src/steps.rt:55:1
 returns : tie.Need-returns
 unfolding downward
 returns c = rw (c .enum-told .given .1)
 
--- src/steps.rt:55:1
 returns-2 : tie.Need-returns-2
 unfolding downward
 returns-2 c = rw (c .before .before .before .packet .given .1, ← c .before .conversion .ensures) (c .decide .ensures)

@@ -2,41 +2,30 @@ use Rattle.chassis.specs.Walk.{functionNumber}
 use borrow.Author.Needs.{needs}
 use Rattle.routes.proofs.steps.function_number.Statement.{statement}
 use Rattle.routes.proofs.steps.function_number.Tie as tie
-use Rattle.routes.proofs.steps.function_number.Reads as reads
-use Rattle.routes.proofs.steps.function_number.Lts as lts
-use Rattle.claims.proofs.with_ari_at.Reads as with-ari-at-reads
 
--- src/steps.rt:32:20
 enum-known-t : tie.Need-enum-known-t
 enum-known-t c = search needs
 
--- src/steps.rt:33:9
 enum-told : tie.Need-enum-told
 enum-told c = search needs
 
--- src/steps.rt:33:9
 returns : tie.Need-returns
 unfolding functionNumber
 returns c = rw (c .enum-told .given .1)
 
--- src/steps.rt:35:8
 with-ari-at-requires : tie.Need-with-ari-at-requires
 with-ari-at-requires c κs = search needs
 
--- src/steps.rt:36:9
 cast-result : tie.Need-cast-result
 cast-result c = search needs
 
--- src/steps.rt:38:9
 cast-result-2 : tie.Need-cast-result-2
 cast-result-2 c = search needs
 
--- src/steps.rt:29:1
 returns-2 : tie.Need-returns-2
 unfolding functionNumber
 returns-2 c = rw (c .before .before .before .before .t .given .1, ← c .before .before .with-ari-at .ensures, c .before .if1 .taken)
 
--- src/steps.rt:29:1
 returns-3 : tie.Need-returns-3
 unfolding functionNumber
 returns-3 c = rw (c .before .before .before .before .t .given .1, ← c .before .before .with-ari-at .ensures, c .before .if1 .left)

@@ -2,84 +2,59 @@ use Rattle.chassis.specs.Walk.{next}
 use borrow.Author.Needs.{needs}
 use Rattle.routes.proofs.steps.step.Statement.{statement}
 use Rattle.routes.proofs.steps.step.Tie as tie
-use Rattle.routes.proofs.steps.step.Reads as reads
-use Rattle.routes.proofs.steps.step.Lts as lts
-use Rattle.routes.proofs.steps.at_root.Reads as at-root-reads
-use Rattle.routes.proofs.steps.from_above.Reads as from-above-reads
-use Rattle.routes.proofs.steps.from_below.Reads as from-below-reads
-use Rattle.routes.proofs.steps.target_of.Reads as target-of-reads
-use Rattle.routes.proofs.steps.under_type0.Reads as under-type0-reads
-use Rattle.routes.proofs.steps.under_type1.Reads as under-type1-reads
 
--- src/steps.rt:175:30
 enum-told : tie.Need-enum-told
 enum-told c = search needs
 
--- src/steps.rt:175:30
 at-root-requires : tie.Need-at-root-requires
 at-root-requires c κs = search needs
 
--- src/steps.rt:176:27
 enum-known-whereabouts : tie.Need-enum-known-whereabouts
 enum-known-whereabouts c = search needs
 
--- src/steps.rt:176:33
 from-above-requires : tie.Need-from-above-requires
 from-above-requires c κs = search needs
 
--- src/steps.rt:177:27
 enum-known-whereabouts-2 : tie.Need-enum-known-whereabouts-2
 enum-known-whereabouts-2 c = search needs
 
--- src/steps.rt:177:33
 from-below-requires : tie.Need-from-below-requires
 from-below-requires c κs = search needs
 
--- src/steps.rt:178:28
 enum-known-whereabouts-3 : tie.Need-enum-known-whereabouts-3
 enum-known-whereabouts-3 c = search needs
 
--- src/steps.rt:178:52
 target-of-requires : tie.Need-target-of-requires
 target-of-requires c κs = search needs
 
--- src/steps.rt:178:34
 under-type0-requires : tie.Need-under-type0-requires
 under-type0-requires c κs = search needs
 
--- src/steps.rt:179:28
 enum-known-whereabouts-4 : tie.Need-enum-known-whereabouts-4
 enum-known-whereabouts-4 c = search needs
 
--- src/steps.rt:179:52
 target-of-requires-2 : tie.Need-target-of-requires-2
 target-of-requires-2 c κs = search needs
 
--- src/steps.rt:179:34
 under-type1-requires : tie.Need-under-type1-requires
 under-type1-requires c κs = search needs
 
--- src/steps.rt:170:1
 returns : tie.Need-returns
 unfolding next
 returns c = rw (c .before .enum-told .given .1) (c .at-root .ensures)
 
--- src/steps.rt:170:1
 returns-2 : tie.Need-returns-2
 unfolding next
 returns-2 c = rw (c .before .before .whereabouts .given .1) (c .from-above .ensures)
 
--- src/steps.rt:170:1
 returns-3 : tie.Need-returns-3
 unfolding next
 returns-3 c = rw (c .before .before .whereabouts2 .given .1) (c .from-below .ensures)
 
--- src/steps.rt:170:1
 returns-4 : tie.Need-returns-4
 unfolding next
 returns-4 c = rw (c .before .before .before .whereabouts3 .given .1, ← c .before .target-of .ensures) (c .under-type0 .ensures)
 
--- src/steps.rt:170:1
 returns-5 : tie.Need-returns-5
 unfolding next
 returns-5 c = rw (c .before .before .before .whereabouts4 .given .1, ← c .before .target-of2 .ensures) (c .under-type1 .ensures)

@@ -1,22 +1,16 @@
 use borrow.Author.Needs.{needs}
 use Rattle.routes.proofs.steps.target_of.Statement.{statement}
 use Rattle.routes.proofs.steps.target_of.Tie as tie
-use Rattle.routes.proofs.steps.target_of.Reads as reads
-use Rattle.routes.proofs.steps.target_of.Lts as lts
 
--- src/steps.rt:23:23
 enum-known-packet : tie.Need-enum-known-packet
 enum-known-packet c = search needs
 
--- src/steps.rt:24:24
 enum-known-packet-2 : tie.Need-enum-known-packet-2
 enum-known-packet-2 c = search needs
 
--- src/steps.rt:19:1
 returns : tie.Need-returns
 returns c = rw (c .before .packet .given .1)
 
--- src/steps.rt:19:1
 returns-2 : tie.Need-returns-2
 returns-2 c = rw (c .before .packet2 .given .1)
 

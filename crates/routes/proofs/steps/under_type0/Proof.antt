@@ -2,47 +2,33 @@ use Rattle.chassis.specs.Walk.{underType0, byHolders}
 use borrow.Author.Needs.{needs}
 use Rattle.routes.proofs.steps.under_type0.Statement.{statement}
 use Rattle.routes.proofs.steps.under_type0.Tie as tie
-use Rattle.routes.proofs.steps.under_type0.Reads as reads
-use Rattle.routes.proofs.steps.under_type0.Lts as lts
-use Rattle.holders.proofs.lowest_at.Reads as lowest-at-reads
-use Rattle.routes.proofs.steps.device_or.Reads as device-or-reads
-use Rattle.routes.proofs.steps.function_number.Reads as function-number-reads
 
--- src/steps.rt:150:11
 lowest-at-requires : tie.Need-lowest-at-requires
 lowest-at-requires c κs = search needs
 
--- src/steps.rt:151:47
 enum-told : tie.Need-enum-told
 enum-told c = search needs
 
--- src/steps.rt:151:47
 function-number-requires : tie.Need-function-number-requires
 function-number-requires c κs = search needs
 
--- src/steps.rt:151:28
 device-or-requires : tie.Need-device-or-requires
 device-or-requires c κs = search needs
 
--- src/steps.rt:152:23
 enum-known-p : tie.Need-enum-known-p
 enum-known-p c = search needs
 
--- src/steps.rt:153:23
 enum-known-p-2 : tie.Need-enum-known-p-2
 enum-known-p-2 c = search needs
 
--- src/steps.rt:146:1
 returns : tie.Need-returns
 unfolding underType0 byHolders
 returns c = rw (← c .before .before .before .before .lowest-at .ensures, c .before .before .enum-told .given .1, ← c .before .function-number .ensures) (c .device-or .ensures)
 
--- src/steps.rt:146:1
 returns-2 : tie.Need-returns-2
 unfolding underType0 byHolders
 returns-2 c = rw (← c .before .before .before .lowest-at .ensures, c .before .p .given .1)
 
--- src/steps.rt:146:1
 returns-3 : tie.Need-returns-3
 unfolding underType0 byHolders
 returns-3 c = rw (← c .before .before .before .lowest-at .ensures, c .before .p2 .given .1)

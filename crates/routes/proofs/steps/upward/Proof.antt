@@ -2,30 +2,20 @@ use Rattle.chassis.specs.Walk.{upward}
 use borrow.Author.Needs.{needs}
 use Rattle.routes.proofs.steps.upward.Statement.{statement}
 use Rattle.routes.proofs.steps.upward.Tie as tie
-use Rattle.routes.proofs.steps.upward.Reads as reads
-use Rattle.routes.proofs.steps.upward.Lts as lts
-use Rattle.claims.proofs.claims.Reads as claims-reads
-use Rattle.routes.proofs.steps.come_to.Reads as come-to-reads
-use Rattle.trees.proofs.parent_at.Reads as parent-at-reads
 
--- src/steps.rt:101:8
 claims-requires : tie.Need-claims-requires
 claims-requires c κs = search needs
 
--- src/steps.rt:104:32
 parent-at-requires : tie.Need-parent-at-requires
 parent-at-requires c κs = search needs
 
--- src/steps.rt:104:24
 come-to-requires : tie.Need-come-to-requires
 come-to-requires c κs = search needs
 
--- src/steps.rt:98:1
 returns : tie.Need-returns
 unfolding upward
 returns c = rw (← c .before .claims .ensures, c .if1 .taken)
 
--- src/steps.rt:98:1
 returns-2 : tie.Need-returns-2
 unfolding upward
 returns-2 c = rw (← c .before .before .before .claims .ensures, c .before .before .if1 .left, ← c .before .parent-at .ensures, ← c .come-to .ensures)

@@ -1,0 +1,3 @@
+pub mod Forty
+pub mod WalkCalls
+pub mod CheckCalls

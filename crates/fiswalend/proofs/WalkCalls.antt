@@ -1,0 +1,82 @@
+-- What the walk call returns and leaves is as its definition says, and is all that it may. Assumes nothing.
+use Prim.Native.Nat.{ℕ, _<_, _≤_}
+use mathlib.Core.Bool.{Bool, true, false}
+use mathlib.Core.List.{List, _++_}
+use mathlib.Core.Path.{_≡_, refl, sym, ap, subst, _∙_}
+use native.Mathlib.Nat.{le-trans}
+use native.Mathlib.Omega.{arith}
+use lib.ListN.{length, drop, getD}
+use Rattle.chassis.specs.Walk.{comeTo}
+use Rattle.chassis.proofs.Steps.{left-most}
+use Rattle.chassis.proofs.Walks.{walk-short}
+use Rattle.paths.specs.Paths.{pathOf}
+use Rattle.picture.specs.declared.Header.{Header}
+use Rattle.picture.specs.declared.Reading.{Reading}
+use Rattle.picture.specs.declared.Reading.the-variants.{Read, Refused as NotRead}
+use Rattle.picture.specs.Reading.{reading}
+use Rattle.claims.specs.Claims.{chassisOf}
+use Rattle.trees.specs.Trees.{treeOf}
+use Rattle.answers.specs.Answers.{headBytes, answerBytes}
+use Rattle.judge.specs.declared.Outcome.{Outcome}
+use Rattle.judge.specs.declared.Outcome.the-variants.{Refused, Ended}
+use Rattle.judge.specs.declared.WalkAnswer.{WalkAnswer}
+use Rattle.judge.specs.Ends.{outcomeNumber}
+use Rattle.judge.specs.Walking.{packetOf, askedWrongly, refusedWalk, endedWalk, AskedGives, ReadGives, WalkGives}
+use Rattle.judge.proofs.Walks.{walk-only, sane-read, within-start}
+use Rattle.fiswalend.specs.Refusals.{refusalHead}
+use Rattle.fiswalend.specs.Walked.{endHead, outcomeHead, walkHead, walkBytes}
+use Rattle.fiswalend.specs.Calls.{tooShort, WalkLeaves, WalkCall}
+use Rattle.fiswalend.proofs.Forty.{under-40, has-40}
+
+-- a walk crosses at most 32 ports, so that the count fits its byte
+module _ (s : List ℕ) (kind start target : ℕ) (a : WalkAnswer) where
+  asked-short : (h : Header) → reading s ≡ Read h → (wrong : Bool) → askedWrongly (treeOf s) kind start target ≡ wrong
+      → AskedGives wrong s kind start target a → a .path .count ≤ 32
+  unfolding refusedWalk endedWalk pathOf
+  asked-short h read true asked gives = rw gives (omega arith)
+  asked-short h read false asked gives =
+      let short = walk-short (chassisOf s) (packetOf kind target) (sane-read s h read) (within-start s h read kind start target asked refl) (gives .1 .walk) in
+      rw (gives .2, gives .1 .named) (le-trans short (left-most (chassisOf s) (comeTo start)))
+
+  pub crossings-few : WalkGives s kind start target a → a .path .count ≤ 32
+  unfolding refusedWalk pathOf
+  crossings-few = go (reading s) refl
+    where
+      go : (got : Reading) → reading s ≡ got → ReadGives got s kind start target a → a .path .count ≤ 32
+      go (NotRead r) read gives = rw gives (omega arith)
+      go (Read h) read gives = asked-short h read (askedWrongly (treeOf s) kind start target) refl gives
+
+-- the first byte is the number
+pub first-byte : (a : WalkAnswer) → getD (walkBytes a) 0 0 ≡ outcomeNumber (a .outcome)
+unfolding walkBytes walkHead answerBytes headBytes outcomeHead refusalHead endHead
+first-byte a = go (a .outcome)
+  where
+    go : (o : Outcome) → outcomeHead o (a .path .count) .number ≡ outcomeNumber o
+    go (Refused r) = refl
+    go (Ended e) = refl
+
+module _ (s : List ℕ) (kind start target : ℕ) (before : List ℕ) (number : ℕ) (after : List ℕ) where
+  leaves : (short : Bool) → tooShort before ≡ short → WalkLeaves short s kind start target before number after
+      → WalkCall s kind start target before number after
+  leaves short e w = subst (λ (b : Bool). WalkLeaves b s kind start target before number after) (sym e) w
+
+  pub leaves-17 : length before < 40 → number ≡ 17 → after ≡ before → WalkCall s kind start target before number after
+  leaves-17 l is-17 untouched = leaves true (under-40 before l) (is-17, untouched)
+
+  pub leaves-40 : (forty : List ℕ) (a : WalkAnswer) → 40 ≤ length before → WalkGives s kind start target a → forty ≡ walkBytes a
+      → number ≡ getD forty 0 0 → after ≡ forty ++ drop 40 before → WalkCall s kind start target before number after
+  leaves-40 forty a l gives is first rest =
+      leaves false (has-40 before l)
+      (a, gives, first ∙ ap (λ (bytes : List ℕ). getD bytes 0 0) is ∙ first-byte a, rest ∙ ap (λ (bytes : List ℕ). bytes ++ drop 40 before) is)
+
+-- the call has one number and leaves one buffer
+pub walk-call-only : (s : List ℕ) (kind start target : ℕ) (before : List ℕ) (m n : ℕ) (x y : List ℕ)
+    → WalkCall s kind start target before m x → WalkCall s kind start target before n y → (m ≡ n) × (x ≡ y)
+walk-call-only s kind start target before m n x y = go (tooShort before)
+  where
+    go : (short : Bool) → WalkLeaves short s kind start target before m x → WalkLeaves short s kind start target before n y
+        → (m ≡ n) × (x ≡ y)
+    go true v w = (v .0 ∙ sym (w .0), v .1 ∙ sym (w .1))
+    go false v w =
+        let same = walk-only s kind start target (v .0) (w .0) (v .1) (w .1) in
+        (v .2 ∙ ap (λ (a : WalkAnswer). outcomeNumber (a .outcome)) same ∙ sym (w .2), v .3 ∙ ap (λ (a : WalkAnswer). walkBytes a ++ drop 40 before) same ∙ sym (w .3))

@@ -1,0 +1,4 @@
+pub mod Refusals
+pub mod Walked
+pub mod Checked
+pub mod Calls

@@ -1,0 +1,68 @@
+#!/usr/bin/env bash
+# differential.sh [SEED [PICTURES]]: the proved judge against the second program (second/README.md), call by call: report,
+# check and walk (40 bytes each), claim and conversion. Runs the second program's own tests, then the hand-written cases, all
+# edges of reading and PICTURES random pictures of seed SEED. A longer run with another seed: tests/differential.sh 7 50000
+# A difference prints the picture's file, the call and both answers. Last line: N passed, M failed, counting answers and tests.
+set -u
+cd "$(dirname "$0")/.."
+. tools/kit.sh
+seed=${1:-1} pictures=${2:-1000}
+passed=0 failed=0
+work=target/differential
+chunk=500
+
+give_up() {
+    echo "$1"
+    echo "$passed passed, $((failed + 1)) failed"
+    exit 1
+}
+
+command -v cargo >/dev/null || apt-get install -y cargo >/dev/null 2>&1 || give_up "cargo is missing, and apt-get does not install it"
+rm -rf "$work"
+mkdir -p "$work"
+(cd second && cargo build --release --offline --quiet) || give_up "the second program does not build"
+second=$PWD/second/target/release/second
+build batch || give_up "the batch program is not proved"
+echo "built at $SECONDS s"
+
+tests=$(cd second && cargo test --offline --quiet 2>&1) || { printf '%s\n' "$tests"; give_up "the second program's own tests fail"; }
+count=$(awk '/^test result: ok/ { n += $4 } END { print n + 0 }' <<<"$tests")
+passed=$((passed + count))
+echo "the second program's own tests: $count (at $SECONDS s)"
+
+# compare NAME: both answers to the batch NAME, line by line
+compare() {
+    local name=$1 same other
+    "$second" answers <"$work/$name.batch" >"$work/$name.expected" &
+    run_built batch <"$work/$name.batch" >"$work/$name.actual" || echo "batch: status $?"
+    wait $! || echo "second: status $?"
+    read -r same other < <(awk 'NR == FNR { wanted[FNR] = $0; lines = FNR; next }
+        FNR in wanted && wanted[FNR] == $0 { same++ }
+        END { print same + 0, (lines > FNR ? lines : FNR) - same }' "$work/$name.expected" "$work/$name.actual")
+    passed=$((passed + same)) failed=$((failed + other))
+    if ! (cd "$work" && "$second" compare "$name.expected" "$name.actual" "$name.batch") >"$work/$name.compared"; then
+        [ "$other" -gt 0 ] || failed=$((failed + 1))
+        mkdir -p "$work/$name"
+        mv "$work"/difference-*.picture "$work/$name/" 2>/dev/null
+        echo "in $work/$name:"
+        cat "$work/$name.compared"
+    elif [ "$same" -eq 0 ]; then
+        failed=$((failed + 1))
+        echo "$name: no answers at all"
+    else
+        rm -f "$work/$name".*
+    fi
+    echo "$name: $same answers agree, $other differ (at $SECONDS s)"
+}
+
+# the hand-written cases, and a picture longer than the batch program keeps
+{ "$second" batch; printf 'P\100\0\1\0'; head -c 65600 /dev/zero; printf RC; } >"$work/hand-written.batch"
+compare hand-written
+while [ "$pictures" -gt 0 ]; do
+    now=$((pictures < chunk ? pictures : chunk))
+    "$second" generate "$seed" "$now" >"$work/seed-$seed.batch" || give_up "no pictures of seed $seed"
+    compare "seed-$seed"
+    seed=$((seed + 1)) pictures=$((pictures - now))
+done
+echo "$passed passed, $failed failed"
+[ "$failed" -eq 0 ]
