@@ -36,6 +36,26 @@ pub fn hit(v: &[u8], g: Settings, t: u64) -> bool {
     }
 }
 
+// The byte that has no entry as wanted.
+fn blank(want: bool) -> u8 {
+    if want {
+        0
+    } else {
+        255
+    }
+}
+
+// The entry to try behind one that is not as wanted: the next, or, where no entry of its byte is as wanted, the next byte's first.
+fn behind(v: &[u8], want: bool, i: u64, size: u64) -> u64 {
+    if size - i < 8 {
+        return i + 1;
+    }
+    if crate::lent::u8_at(v, (i / 8) as usize) == blank(want) {
+        return i / 8 * 8 + 8;
+    }
+    i + 1
+}
+
 // The next entry from `from` on, below the size, that is set, or, where that is wanted, clear.
 pub fn next_entry(v: &[u8], want: bool, from: u64, size: u64) -> Found {
     let mut i = from;
@@ -43,7 +63,7 @@ pub fn next_entry(v: &[u8], want: bool, from: u64, size: u64) -> Found {
         if is_set(v, i) == want {
             return Found::At(i);
         }
-        i += 1;
+        i = behind(v, want, i, size);
     }
     Found::Nothing
 }

@@ -1,17 +1,18 @@
 -- Laws of vectors, over size, start and scale.
 -- Assumes nothing.
-use Prim.Native.Nat.{ℕ, suc, _+_, _-_, _*_, _/_, _≤_, _<_, max}
+use Prim.Native.Nat.{ℕ, zero, suc, _+_, _-_, _*_, _/_, _%_, _^_, _≤_, _<_, max}
 use mathlib.Core.Path.{_≡_, refl, _∙_}
-use mathlib.Core.Bool.{Bool, true, false, cond, _&&_}
+use mathlib.Core.Bool.{Bool, true, false, cond, _&&_, Bool·beq}
 use mathlib.Core.List.{List}
-use native.Mathlib.Nat.{le-trans, suc-mul, le-div-iff-mul-le, div-lt-iff-lt-mul, div-mul-le-self}
+use native.Mathlib.Nat.{zero-div, le-trans, suc-mul, le-div-iff-mul-le, div-lt-iff-lt-mul, div-mul-le-self}
 use native.Mathlib.Omega.{arith}
-use lib.Dec.{ltb}
+use lib.ListN.{getD}
+use lib.Dec.{ltb, eqb}
 use borrow.Author.Tests.{le-leb, lt-leb}
 use Rattle.least.proofs.Laws.{NoneIn, LeastAt}
 use Rattle.least.specs.declared.Found.the-variants.{At, Nothing}
 use Rattle.vectors.specs.declared.Settings.{Settings}
-use Rattle.vectors.specs.Vectors.{applies, entryAt, entryOf, isSet, hits}
+use Rattle.vectors.specs.Vectors.{applies, entryAt, entryOf, isSet, entryIs, hits}
 
 -- a target is hit exactly if the entry that applies to it is set
 pub hits-entry : (v : List ℕ) (g : Settings) (t : ℕ) {i : ℕ} → At i ≡ entryOf g t → isSet v i ≡ hits v g t
@@ -91,3 +92,26 @@ module _ (start gran : ℕ) (some : 0 < gran) (q s : ℕ → Bool) (same : (t : 
             same t (omega arith)
             ∙ a .none ((t - start) / gran) (entry-mono f t m) (div-lt-iff-lt-mul some .1 (omega arith));
       }
+
+-- No entry is as wanted in a byte of zeros where set ones are, or in a byte of ones where clear ones are.
+ones-of-255 : (k : ℕ) → k < 8 → eqb (255 / 2 ^ k % 2) 1 ≡ true
+ones-of-255 zero l = refl
+ones-of-255 (suc zero) l = refl
+ones-of-255 (suc (suc zero)) l = refl
+ones-of-255 (suc (suc (suc zero))) l = refl
+ones-of-255 (suc (suc (suc (suc zero)))) l = refl
+ones-of-255 (suc (suc (suc (suc (suc zero))))) l = refl
+ones-of-255 (suc (suc (suc (suc (suc (suc zero)))))) l = refl
+ones-of-255 (suc (suc (suc (suc (suc (suc (suc zero))))))) l = refl
+ones-of-255 (suc (suc (suc (suc (suc (suc (suc (suc k)))))))) l = absurd (omega arith)
+
+not-as-wanted : (want : Bool) (k : ℕ) → k < 8 → Bool·beq (eqb (cond want 0 255 / 2 ^ k % 2) 1) want ≡ false
+not-as-wanted true k l = rw (zero-div (2 ^ k))
+not-as-wanted false k l = rw (ones-of-255 k l)
+
+pub blank-rest : (v : List ℕ) (want : Bool) (i : ℕ) → getD v (i / 8) 0 ≡ cond want 0 255 → NoneIn (entryIs v want) (i + 1) (i / 8 * 8 + 8)
+unfolding entryIs isSet
+blank-rest v want i blank =
+    record {
+      none = λ j l h. let same : j / 8 ≡ i / 8 = omega arith in rw (same, blank) (not-as-wanted want (j % 8) (omega arith));
+    }

@@ -1,9 +1,11 @@
 // A vector of entries, as the RID, MEM Low and MEM High vectors all are: which entry applies to a target, whether it is
 // set, and the next entry that is.
 use least::Found;
+ghost use mathlib.Core.Bool.{cond};
 ghost use mathlib.Core.Path.{_≡_};
-ghost use Prim.Native.Nat.{_<_};
+ghost use Prim.Native.Nat.{_+_, _<_};
 ghost use Rattle.least.specs.Least.{firstIn};
+ghost use Rattle.least.proofs.Laws.{NoneIn};
 ghost use Rattle.vectors.specs.Vectors.{applies, entryOf, isSet, entryIs, hits};
 
 // A vector's size in entries, the target where entry 0 begins, and its granularity: an entry stands for 2^scale targets.
@@ -47,6 +49,28 @@ pub fn hit(v: &[u8], g: Settings, t: u64) -> bool
     }
 }
 
+// The byte that has no entry as wanted.
+fn blank(want: bool) -> u8
+    ensures { λ r. ⌜ r ≡ cond want 0 255 ⌝ }
+{
+    if want { 0 } else { 255 }
+}
+
+// The entry to try behind one that is not as wanted: the next, or, where no entry of its byte is as wanted, the next byte's first.
+fn behind(v: &[u8], want: bool, i: u64, size: u64) -> u64
+    requires { ⌜ i < size ⌝ }
+    ensures { λ r. ⌜ i < r ⌝ }
+    ensures { λ r. ⌜ NoneIn (entryIs (now (v .entry)) want) (i + 1) r ⌝ }
+{
+    if size - i < 8 {
+        return i + 1;
+    }
+    if lent::u8_at(v, (i / 8) as usize) == blank(want) {
+        return i / 8 * 8 + 8;
+    }
+    i + 1
+}
+
 // The next entry from `from` on, below the size, that is set, or, where that is wanted, clear.
 pub fn next_entry(v: &[u8], want: bool, from: u64, size: u64) -> Found
     ensures { λ r. ⌜ r ≡ firstIn (entryIs (now (v .entry)) want) from size ⌝ }
@@ -56,7 +80,7 @@ pub fn next_entry(v: &[u8], want: bool, from: u64, size: u64) -> Found
         if is_set(v, i) == want {
             return Found::At(i);
         }
-        i += 1;
+        i = behind(v, want, i, size);
     }
     Found::Nothing
 }

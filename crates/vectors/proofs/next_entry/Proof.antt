@@ -3,7 +3,7 @@ use Prim.Native.Nat.{_≤_, _-_}
 use native.Mathlib.Nat.{le-refl}
 use native.Mathlib.Omega.{arith}
 use borrow.Author.Needs.{needs}
-use Rattle.least.proofs.Laws.{NoneIn, none-empty, none-more, none-part, at-is, none-is}
+use Rattle.least.proofs.Laws.{NoneIn, none-empty, none-join, none-more, none-part, at-is, none-is}
 use Rattle.vectors.specs.Vectors.{entryIs}
 use Rattle.vectors.proofs.next_entry.Statement.{statement}
 use Rattle.vectors.proofs.next_entry.Tie as tie
@@ -32,15 +32,17 @@ returns c =
       first = came .1;
     })
 
-add-i : tie.Need-add-i Inv-loop μ-loop
-add-i c = omega arith
+behind-requires : tie.Need-behind-requires Inv-loop μ-loop
+behind-requires c κs = omega arith
 
 loop-less : tie.Need-loop-less Inv-loop μ-loop
 loop-less c = omega arith
 
 loop-again : tie.Need-loop-again Inv-loop μ-loop
 unfolding entryIs
-loop-again c = (omega arith, none-more (c .before .before .before .loop .inv .1) (rw (← c .before .is-set .ensures) (c .if1 .left)))
+loop-again c =
+    let came = c .before .before .before .before .loop .inv in
+    (omega arith, none-join (none-more (came .1) (rw (← c .before .before .is-set .ensures) (c .before .if1 .left))) (c .behind .ensures .1))
 
 returns-2 : tie.Need-returns-2 Inv-loop μ-loop
 returns-2 c = none-is (none-part (le-refl _) (c .loop-test .left) (c .before .loop .inv .1))
@@ -54,7 +56,7 @@ next-entry-spec =
     loop-holds
     is-set-requires
     returns
-    add-i
+    behind-requires
     loop-less
     loop-again
     returns-2)
