@@ -67,6 +67,13 @@ def chain(length):
     return [Port(kind, i - 1 if i else 255, 8 * i) for i, kind in enumerate(kinds)]
 
 
+def nested(bus, length, root_id, first=0):
+    """A sound chain whose first port is number `first`: every port has one bus of its own, and all that lie below it."""
+    kinds = [ROOT] + [UPSTREAM if i % 2 else DOWNSTREAM for i in range(1, length)]
+    return [Port(kind, first + i - 1 if i else 255, (bus + i - 1) << 8 if i else root_id, buses=(bus + i, bus + 15))
+            for i, kind in enumerate(kinds)]
+
+
 def changed(data, at, new):
     return data[:at] + bytes(new) + data[at + len(new):]
 
@@ -86,6 +93,8 @@ SAMPLES = {
     'switch': picture(SWITCH),
     'chain-of-16': picture(chain(16)),
     'chain-of-17': picture(chain(17)),
+    # the longest way there is: up from the device port 14, and down to the upstream port 30 over 31 ports
+    'two-chains': picture(nested(1, 15, 0x0008) + nested(32, 16, 0x0010, first=15)),
     'short': ONE_PORT[:71],
     'edition-2': changed(ONE_PORT, 0, [2, 0]),
     'no-port': changed(ONE_PORT, 2, [0, 0]),

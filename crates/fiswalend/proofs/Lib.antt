@@ -1,3 +1,3 @@
-pub mod Buffers
+pub mod Forty
 pub mod WalkCalls
 pub mod CheckCalls

@@ -5,7 +5,7 @@ use mathlib.Core.List.{List, _++_}
 use mathlib.Core.Path.{_≡_, refl, sym, ap, subst, _∙_}
 use native.Mathlib.Nat.{le-trans}
 use native.Mathlib.Omega.{arith}
-use lib.ListN.{length, take, drop, getD}
+use lib.ListN.{length, drop, getD}
 use Rattle.chassis.specs.Walk.{comeTo}
 use Rattle.chassis.proofs.Steps.{left-most}
 use Rattle.chassis.proofs.Walks.{walk-short}
@@ -26,7 +26,7 @@ use Rattle.judge.proofs.Walks.{walk-only, sane-read, within-start}
 use Rattle.fiswalend.specs.Refusals.{refusalHead}
 use Rattle.fiswalend.specs.Walked.{endHead, outcomeHead, walkHead, walkBytes}
 use Rattle.fiswalend.specs.Calls.{tooShort, WalkLeaves, WalkCall}
-use Rattle.fiswalend.proofs.Buffers.{under-40, has-40, copied-40}
+use Rattle.fiswalend.proofs.Forty.{under-40, has-40}
 
 -- a walk crosses at most 32 ports, so that the count fits its byte
 module _ (s : List ℕ) (kind start target : ℕ) (a : WalkAnswer) where
@@ -63,12 +63,11 @@ module _ (s : List ℕ) (kind start target : ℕ) (before : List ℕ) (number : 
   pub leaves-17 : length before < 40 → number ≡ 17 → after ≡ before → WalkCall s kind start target before number after
   leaves-17 l is-17 untouched = leaves true (under-40 before l) (is-17, untouched)
 
-  pub leaves-40 : (forty : List ℕ) (a : WalkAnswer) → 40 ≤ length before → WalkGives s kind start target a
-      → forty ≡ walkBytes a → length forty ≡ 40 → number ≡ getD forty 0 0
-      → after ≡ take (length forty) forty ++ drop (length forty) before → WalkCall s kind start target before number after
-  leaves-40 forty a l gives is whole first copied =
+  pub leaves-40 : (forty : List ℕ) (a : WalkAnswer) → 40 ≤ length before → WalkGives s kind start target a → forty ≡ walkBytes a
+      → number ≡ getD forty 0 0 → after ≡ forty ++ drop 40 before → WalkCall s kind start target before number after
+  leaves-40 forty a l gives is first rest =
       leaves false (has-40 before l)
-      (a, gives, first ∙ ap (λ (bytes : List ℕ). getD bytes 0 0) is ∙ first-byte a, copied ∙ copied-40 forty before whole ∙ ap (λ (bytes : List ℕ). bytes ++ drop 40 before) is)
+      (a, gives, first ∙ ap (λ (bytes : List ℕ). getD bytes 0 0) is ∙ first-byte a, rest ∙ ap (λ (bytes : List ℕ). bytes ++ drop 40 before) is)
 
 -- the call has one number and leaves one buffer
 pub walk-call-only : (s : List ℕ) (kind start target : ℕ) (before : List ℕ) (m n : ℕ) (x y : List ℕ)

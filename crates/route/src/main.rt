@@ -1,9 +1,9 @@
 // route id|addr|config START TARGET: where a packet goes in the picture on standard input. START is `host` or the number of
 // a device port, TARGET a number in hexadecimal.
 mod numbers;
-mod printing;
 
 use libc::STDIN_FILENO;
+use libc::STDOUT_FILENO;
 use numbers::Number;
 
 // The packet kind that a word names: 0 ID, 1 address, 2 configuration request.
@@ -41,21 +41,29 @@ fn argument(i: usize) -> Number {
     numbers::hexadecimal(&word[..n])
 }
 
+// What is said to arguments that are not as they must be.
+fn print_usage() {
+    io::write_all(
+        STDOUT_FILENO,
+        b"usage: route id|addr|config START TARGET <PICTURE; START is host or a device port's number, TARGET is hexadecimal\n",
+    );
+}
+
 fn main() {
     if os::arg_count() != 4 {
-        printing::print_usage();
+        print_usage();
         return;
     }
     let Number::Is(kind) = argument(1) else {
-        printing::print_usage();
+        print_usage();
         return;
     };
     let Number::Is(start) = argument(2) else {
-        printing::print_usage();
+        print_usage();
         return;
     };
     let Number::Is(target) = argument(3) else {
-        printing::print_usage();
+        print_usage();
         return;
     };
     let mut buffer = [0u8; 65537];
@@ -66,5 +74,5 @@ fn main() {
         numbers::clamped(start),
         target,
     );
-    printing::print_walk(answer, kind == 2);
+    texts::walk_text(answer, kind == 2).with(b"\n").print();
 }

@@ -1,17 +1,20 @@
 // What the programs print, as text: built up piece by piece, so that it is written at once and can be compared.
+mod parts;
 mod report;
+mod walks;
 
 pub use report::report_text;
+pub use walks::walk_text;
 
-// At most 128 bytes; what does not fit is left out.
+// At most 192 bytes; what does not fit is left out.
 pub struct Text {
-    pub bytes: [u8; 128],
+    pub bytes: [u8; 192],
     pub length: usize,
 }
 
 // Puts a byte at a place, and answers the place behind it.
-fn put(bytes: &mut [u8; 128], at: usize, b: u8) -> usize {
-    if at < 128 {
+fn put(bytes: &mut [u8; 192], at: usize, b: u8) -> usize {
+    if at < 192 {
         bytes[at] = b;
         return at + 1;
     }
@@ -19,9 +22,10 @@ fn put(bytes: &mut [u8; 128], at: usize, b: u8) -> usize {
 }
 
 impl Text {
+    // No text yet.
     pub fn new() -> Text {
         Text {
-            bytes: [0; 128],
+            bytes: [0; 192],
             length: 0,
         }
     }
@@ -38,12 +42,14 @@ impl Text {
         Text { bytes, length: at }
     }
 
+    // The text with a decimal number behind it.
     pub fn with_decimal(self, n: u64) -> Text {
         let mut digits = [0u8; 20];
         let k = io::decimal(n, &mut digits);
         self.with(&digits[..k])
     }
 
+    // The text with a hexadecimal number of at least so many digits behind it.
     pub fn with_hex(self, n: u64, width: usize) -> Text {
         let mut digits = [0u8; 16];
         let k = io::hex(n, width, &mut digits);

@@ -1,23 +1,10 @@
 // The lines of the report: two for a picture that passes, one for a refusal; `end` stands behind a line that another follows.
 use crate::Text;
+use crate::parts::of_refusal;
+use crate::parts::with_port;
 use chassis::Verdict;
-use ids::PortNo;
 use ids::Target;
 use judge::CheckAnswer;
-use picture::Refusal;
-
-fn with_port(text: Text, p: PortNo) -> Text {
-    text.with(b" ").with_decimal(p.0 as u64)
-}
-
-// `refused K`, and the port that numbers 6 to 10 name.
-fn of_refusal(r: Refusal) -> Text {
-    let text = Text::new().with(b"refused ").with_decimal(r.number as u64);
-    if r.number < 6 {
-        return text;
-    }
-    with_port(text.with(b" ports"), r.port)
-}
 
 // `refused K`, the first number for an ID and the second for an address, and the target with 4 or 16 digits.
 fn of_target(of_id: u64, of_address: u64, t: Target) -> Text {
@@ -38,6 +25,7 @@ fn of_target(of_id: u64, of_address: u64, t: Target) -> Text {
     }
 }
 
+// `ports N` and `clear`.
 fn of_clear(picture: &[u8], end: u8) -> Text {
     let text = Text::new()
         .with(b"ports ")
@@ -45,6 +33,7 @@ fn of_clear(picture: &[u8], end: u8) -> Text {
     text.with(&[end]).with(b"clear")
 }
 
+// What the check of a picture that reads has found.
 fn of_verdict(picture: &[u8], verdict: Verdict, end: u8) -> Text {
     match verdict {
         Verdict::Clear => of_clear(picture, end),

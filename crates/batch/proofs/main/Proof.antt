@@ -1,10 +1,7 @@
 use borrow.Author.Needs.{needs}
-use Prim.Native.Nat.{_-_, _≤_}
+use Prim.Native.Nat.{_-_}
 use Rattle.batch.proofs.main.Statement.{statement}
 use Rattle.batch.proofs.main.Tie as tie
-use Rattle.batch.proofs.main.Reads as reads
-use Rattle.batch.proofs.main.Lts as lts
-use Rattle.batch.proofs.take_record.Reads as take-record-reads
 
 abbrev Inv-loop : tie.InvT-loop
 Inv-loop picture₀ length₀ left₀ picture length left = Unit {0}

@@ -3,11 +3,6 @@ use mathlib.Core.Path.{sym}
 use lib.Seq.{length-take-le}
 use Rattle.batch.proofs.take_picture.Statement.{statement}
 use Rattle.batch.proofs.take_picture.Tie as tie
-use Rattle.batch.proofs.take_picture.Reads as reads
-use Rattle.batch.proofs.take_picture.Lts as lts
-use Rattle.batch.proofs.fields.skip.Reads as skip-reads
-use Rattle.batch.proofs.fields.take_u32.Reads as take-u32-reads
-use Rattle.io.proofs.read_full.Reads as read-full-reads
 
 take-u32-requires : tie.Need-take-u32-requires
 take-u32-requires c κs = search needs

@@ -1,10 +1,7 @@
 use borrow.Author.Needs.{needs}
-use Prim.Native.Nat.{_-_, _≤_}
+use Prim.Native.Nat.{_-_}
 use Rattle.batch.proofs.fields.skip.Statement.{statement}
 use Rattle.batch.proofs.fields.skip.Tie as tie
-use Rattle.batch.proofs.fields.skip.Reads as reads
-use Rattle.batch.proofs.fields.skip.Lts as lts
-use Rattle.batch.proofs.fields.take_letter.Reads as take-letter-reads
 
 abbrev Inv-loop : tie.InvT-loop
 Inv-loop n i₀ i = Unit {0}

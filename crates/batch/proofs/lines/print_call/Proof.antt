@@ -1,14 +1,7 @@
 use borrow.Author.Needs.{needs}
-use Prim.Native.Nat.{_-_, _≤_}
+use Prim.Native.Nat.{_-_}
 use Rattle.batch.proofs.lines.print_call.Statement.{statement}
 use Rattle.batch.proofs.lines.print_call.Tie as tie
-use Rattle.batch.proofs.lines.print_call.Reads as reads
-use Rattle.batch.proofs.lines.print_call.Lts as lts
-use Rattle.batch.proofs.lines.print_line.Reads as print-line-reads
-use Rattle.batch.proofs.lines.with_byte.Reads as with-byte-reads
-use Rattle.texts.proofs.Text.new.Reads as new-reads
-use Rattle.texts.proofs.Text.with.Reads as with-reads
-use Rattle.texts.proofs.Text.with_decimal.Reads as with-decimal-reads
 
 abbrev Inv-loop : tie.InvT-loop
 Inv-loop number bytes text₀ i₀ text i = Unit {0}

@@ -1,11 +1,8 @@
 use borrow.Author.Needs.{needs}
 use lib.ListN.{length}
-use Prim.Native.Nat.{_-_, _≤_}
+use Prim.Native.Nat.{_-_}
 use Rattle.texts.proofs.Text.with.Statement.{statement}
 use Rattle.texts.proofs.Text.with.Tie as tie
-use Rattle.texts.proofs.Text.with.Reads as reads
-use Rattle.texts.proofs.Text.with.Lts as lts
-use Rattle.texts.proofs.put.Reads as put-reads
 
 abbrev Inv-loop : tie.InvT-loop
 Inv-loop more bytes₀ at₀ i₀ bytes at i = Unit {0}

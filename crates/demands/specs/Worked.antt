@@ -1,0 +1,82 @@
+-- A worked chassis, so that no demand is empty: a picture of a root port, a switch below it, and a device below each of its two
+-- downstream ports. proofs/Worked.antt shows that it passes the check and computes walks through it; the second picture, which
+-- differs in one port's buses, fails.
+use Prim.Native.Nat.{ℕ, zero, suc, _+_, _*_, _/_, _%_}
+use mathlib.Core.List.{List, [], _∷_, _++_}
+use Rattle.chassis.specs.declared.End.{End}
+use Rattle.chassis.specs.declared.End.the-variants.{Device, Function, Host, Unsupported}
+use Rattle.chassis.specs.Chassis.{portNo}
+use Rattle.paths.specs.Paths.{pathOf}
+use Rattle.ids.specs.declared.PortNo.{PortNo}
+use Rattle.judge.specs.declared.Outcome.the-variants.{Ended}
+use Rattle.judge.specs.declared.WalkAnswer.{WalkAnswer}
+use Rattle.judge.specs.Walking.{WalkGives}
+
+unfoldable pub zeros : ℕ → List ℕ
+zeros zero = []
+zeros (suc n) = 0 ∷ zeros n
+
+-- little-endian, 2 and 4 bytes
+unfoldable pub u16 : ℕ → List ℕ
+u16 n = n % 256 ∷ n / 256 ∷ []
+
+unfoldable pub u32 : ℕ → List ℕ
+u32 n = u16 (n % 65536) ++ u16 (n / 65536)
+
+-- edition 1, and no vectors: they would start at the end
+unfoldable pub headerFor : ℕ → List ℕ
+headerFor count = u16 1 ++ u16 count ++ u32 (16 + 56 * count) ++ u32 16 ++ u32 (16 + 56 * count)
+
+-- Memory E0000000h to E00FFFFFh, which a Command of 2 enables; Prefetchable Base FFF0h above Limit 0; the rest 0, but for where the
+-- vectors of a picture of four ports would start
+unfoldable pub recordOf : ℕ → ℕ → ℕ → ℕ → ℕ → ℕ → List ℕ
+recordOf kind parent own command secondary subordinate =
+    (kind ∷ parent ∷ [])
+    ++ u16 own
+    ++ u16 command
+    ++ (secondary ∷ subordinate ∷ [])
+    ++ u16 0xE000
+    ++ u16 0xE000
+    ++ u16 0xFFF0
+    ++ zeros 38
+    ++ u32 240
+
+-- ports 0 root, 1 upstream, 2 and 3 downstream; the latter has one bus, and no Memory Space Enable
+unfoldable pub chassisWith : ℕ → List ℕ
+chassisWith bus =
+    headerFor 4
+    ++ recordOf 0 255 0x0008 2 1 4
+    ++ recordOf 1 0 0x0100 2 2 4
+    ++ recordOf 2 1 0x0200 2 3 3
+    ++ recordOf 2 1 0x0208 0 bus bus
+
+abbrev pub worked : List ℕ
+worked = chassisWith 4
+
+-- both downstream ports have bus 3
+abbrev pub doubled : List ℕ
+doubled = chassisWith 3
+
+-- the walk's answer by its end and the ports crossed, in order
+abbrev pub portNos : List ℕ → List PortNo
+portNos [] = []
+portNos (p ∷ ps) = portNo p ∷ portNos ps
+
+abbrev pub cameTo : End → List ℕ → WalkAnswer
+cameTo end crossed = record { outcome = Ended end; path = pathOf (portNos crossed) }
+
+-- Walks through it, as the call answers them: packet kind (0 ID, 1 address, 2 configuration request), start, target.
+pub record WorkedWalks : Type 0 where
+  -- down to the device below port 2, and across the switch to it
+  pub down : WalkGives worked 0 255 0x0300 (cameTo (Device (portNo 2) 0) (0 ∷ 1 ∷ 2 ∷ []))
+  pub across : WalkGives worked 0 3 0x0300 (cameTo (Device (portNo 2) 0) (3 ∷ 2 ∷ []))
+  -- a port's own ID
+  pub own-id : WalkGives worked 0 255 0x0200 (cameTo (Function (portNo 2)) (0 ∷ 1 ∷ []))
+  -- an address: port 2 refuses what it claims to its own device, and passes it to it from elsewhere
+  pub own-device : WalkGives worked 1 2 0xE0000000 (cameTo (Unsupported (portNo 2)) [])
+  pub other-device : WalkGives worked 1 3 0xE0000000 (cameTo (Device (portNo 2) 0) (3 ∷ 2 ∷ []))
+  -- up to the host
+  pub up : WalkGives worked 1 2 0 (cameTo Host (2 ∷ 1 ∷ 0 ∷ []))
+  -- configuration requests for Function 0 of the device below port 2, and for a device number that it cannot have
+  pub configures : WalkGives worked 2 255 0x0300 (cameTo (Device (portNo 2) 0) (0 ∷ 1 ∷ 2 ∷ []))
+  pub refuses : WalkGives worked 2 255 0x0308 (cameTo (Unsupported (portNo 2)) (0 ∷ 1 ∷ []))

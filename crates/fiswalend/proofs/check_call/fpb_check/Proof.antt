@@ -1,0 +1,30 @@
+use native.Mathlib.Omega.{arith}
+use Rattle.fiswalend.specs.Checked.{checkBytes}
+use mathlib.Core.Path.{ap, _∙_}
+use Rattle.fiswalend.proofs.CheckCalls.{left-17, left-40}
+use borrow.Author.Needs.{needs}
+use Rattle.fiswalend.proofs.check_call.fpb_check.Statement.{statement}
+use Rattle.fiswalend.proofs.check_call.fpb_check.Tie as tie
+
+returns : tie.Need-returns
+returns c = left-17 _ _ (omega arith)
+
+check-requires : tie.Need-check-requires
+check-requires c κs = search needs
+
+check-bytes-requires : tie.Need-check-bytes-requires
+check-bytes-requires c κs = search needs
+
+write-requires : tie.Need-write-requires
+write-requires c κs = search needs
+
+same-length : tie.Need-same-length
+same-length c = search needs
+
+returns-2 : tie.Need-returns-2
+returns-2 c = left-40 _ _ (omega arith) (c .before .before .before .before .check-bytes .ensures ∙ ap checkBytes (c .before .before .before .before .before .check .ensures)) (c .before .before .write .ensures .0) (c .before .before .write .ensures .1)
+
+pub fpb-check-spec : {M : Type 1} → statement M
+fpb-check-spec =
+    tie.close
+    (tie.spec returns check-requires check-bytes-requires write-requires same-length returns-2)

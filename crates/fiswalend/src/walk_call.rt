@@ -1,0 +1,23 @@
+// The walk call: the picture, the answer buffer, packet kind, start and target.
+use crate::buffers::write;
+use crate::walked::walk_bytes;
+ghost use Rattle.fiswalend.specs.Calls.{WalkCall};
+
+#[no_mangle]
+pub extern "C" fn fpb_walk(
+    picture: &[u8],
+    answer: &mut [u8],
+    kind: u32,
+    start: u32,
+    target: u64,
+) -> u32
+    ensures { λ r. ⌜ WalkCall (now (picture .entry)) kind start target (now (answer .entry)) r (now (answer .exit)) ⌝ }
+{
+    if answer.len() < 40 {
+        return 17;
+    }
+    write(
+        walk_bytes(judge::walk(picture, kind, start, target)),
+        answer,
+    )
+}

@@ -1,0 +1,117 @@
+/* fiswalend.h: the judge of FPB registers, for C and C++.
+ *
+ * A picture is a chassis of 1 to 64 PCIe ports as bytes: a header, a record for each port, their vectors. fpb_check says whether
+ * it is sound, fpb_walk says where one packet goes in it. What they return and write is proved, for every picture, every buffer
+ * and every number.
+ *
+ * What the caller must see to, since no proof reaches this side of the call:
+ *   - a pointer is valid for the length that comes with it: to read for a picture, to read and write for an answer.
+ *     At length 0 any pointer will do, NULL too;
+ *   - picture and answer do not overlap, and nothing changes either during a call.
+ *
+ * The calls keep no state, so any number of threads may call at once. They do not allocate, block, print or stop the program,
+ * and use under 4 KiB of stack. They fail in no way but by the numbers below.
+ *
+ * The archive is for x86-64 Linux. Link with -lfiswalend.
+ */
+#ifndef FISWALEND_H
+#define FISWALEND_H
+
+#include <stddef.h>
+#include <stdint.h>
+
+#ifdef __cplusplus
+extern "C" {
+#endif
+
+/* The bytes of an answer, and the places in its path. */
+#define FPB_ANSWER_LENGTH 40
+#define FPB_PLACES 32
+
+/* In an answer: no port. As the start of a walk: the host. */
+#define FPB_NO_PORT 255
+#define FPB_HOST 255
+
+/* The number that a call returns. The lowest that applies is given, and of several ports the lowest. */
+enum fpb_number {
+    FPB_CLEAR = 0,          /* the check found nothing; the walk came to an end */
+    FPB_LENGTH = 1,         /* the picture has under 72 or over 65,536 bytes */
+    FPB_EDITION = 2,        /* its edition is not 1 */
+    FPB_COUNT = 3,          /* it has no ports, or over 64 */
+    FPB_TOTAL = 4,          /* its total length is not the length given */
+    FPB_OFFSET = 5,         /* records or vectors do not start where they must, or records run past the end */
+    FPB_TREE = 6,           /* kind, parent or child rule broken; names the port */
+    FPB_CHAIN = 7,          /* over 16 ports on a chain; names the port */
+    FPB_SETTINGS = 8,       /* vector settings, Memory or Prefetchable bits that may not be; names the port */
+    FPB_START = 9,          /* an enabled vector's start breaks its rule; names the port */
+    FPB_VECTORS = 10,       /* a port's vectors start elsewhere (names the port), or do not end at the total (names none) */
+    FPB_SHARED_ID = 11,     /* check: an ID held by two ports at one place, or claimed by its owner; names both, and the ID */
+    FPB_SHARED_ADDRESS = 12, /* check: an address held by two ports at one place; names both, and the address */
+    FPB_STRAY_ID = 13,      /* check: an ID held by a port and not claimed by its parent; names the port, and the ID */
+    FPB_STRAY_ADDRESS = 14, /* check: an address held by a port and not claimed by its parent; names the port, and the address */
+    FPB_OWN_ID_LOST = 15,   /* check: a port's own ID is not both claimed by its parent and Type 0 there; names the port */
+    FPB_QUESTION = 16,      /* walk: packet kind over 2, an ID over FFFFh, or a start that is no device port and not the host */
+    FPB_BUFFER = 17         /* the answer buffer has under 40 bytes; nothing was looked at, nothing written */
+};
+
+/* What is sent, and so what the target of a walk is. */
+enum fpb_kind {
+    FPB_ID = 0,     /* a packet routed by ID; the target is an ID */
+    FPB_ADDRESS = 1, /* a packet routed by address; the target is an address */
+    FPB_CONFIG = 2  /* a configuration request; the target is an ID */
+};
+
+/* Where a packet ends. */
+enum fpb_end {
+    FPB_END_NONE = 0,        /* the check, or a refusal */
+    FPB_END_DEVICE = 1,      /* the device below the port named */
+    FPB_END_FUNCTION = 2,    /* the port named is the target itself */
+    FPB_END_HOST = 3,        /* the host */
+    FPB_END_UNSUPPORTED = 4, /* Unsupported Request at the port named */
+    FPB_END_DOUBLED = 5      /* held twice, by the two ports named, the lower first */
+};
+
+/* Where the bytes of an answer are. */
+enum fpb_offset {
+    FPB_AT_NUMBER = 0,
+    FPB_AT_END = 1,
+    FPB_AT_PORT = 2,        /* FPB_NO_PORT where none is named */
+    FPB_AT_SECOND_PORT = 3, /* FPB_NO_PORT where fewer than two are named */
+    FPB_AT_CROSSINGS = 4,   /* how many ports the packet crossed, 0 to 32 */
+    FPB_AT_FUNCTION = 5,    /* the Function number where a configuration request ends at a device, else 0 */
+    FPB_AT_ZEROS = 6,       /* two zeros */
+    FPB_AT_PATH = 8,        /* 32 places: the ports crossed, in crossing order, then FPB_NO_PORT in the places not used */
+    FPB_AT_LEAST_TARGET = 8 /* numbers 11 to 14: the least such ID or address, little-endian in the first 8 places */
+};
+
+/* Whether a picture is sound. Returns a number, 0 to 15 or 17. With a buffer of 40 bytes or more the first 40 are written and
+ * the rest kept; with a shorter one nothing is written. */
+uint32_t fpb_check(const uint8_t *picture, size_t picture_len, uint8_t *answer, size_t answer_len);
+
+/* Where a packet goes: of a kind (enum fpb_kind), from the host (start FPB_HOST) or from the device below port `start`, to a
+ * target. Returns 0 with the end and the path, or a number, 1 to 10, 16 or 17. The buffer as for fpb_check. */
+uint32_t fpb_walk(const uint8_t *picture, size_t picture_len, uint8_t *answer, size_t answer_len, uint32_t kind, uint32_t start,
+                  uint64_t target);
+
+/* The port at place i of an answer's path, i under the number of crossings, in crossing order. */
+static inline uint8_t fpb_crossed(const uint8_t *answer, size_t i)
+{
+    return answer[FPB_AT_PATH + i];
+}
+
+/* The least target of a check's answer with number 11 to 14. */
+static inline uint64_t fpb_least_target(const uint8_t *answer)
+{
+    uint64_t target = 0;
+    int i;
+    for (i = 7; i >= 0; i--) {
+        target = target << 8 | answer[FPB_AT_LEAST_TARGET + i];
+    }
+    return target;
+}
+
+#ifdef __cplusplus
+}
+#endif
+
+#endif

@@ -1,0 +1,7 @@
+/* What the C of this repository uses of stdint.h, for the kit's clang, which comes with no headers. */
+#ifndef SHIM_STDINT_H
+#define SHIM_STDINT_H
+typedef __UINT8_TYPE__ uint8_t;
+typedef __UINT32_TYPE__ uint32_t;
+typedef __UINT64_TYPE__ uint64_t;
+#endif
