@@ -16,8 +16,8 @@ use std::time::Instant;
 use calls::{Kind, Side, Work, KINDS};
 
 /// How many samples are taken of each side, and how long one lasts at least.
-const ROUNDS: usize = 25;
-const SAMPLE_NANOSECONDS: f64 = 4_000_000.0;
+const ROUNDS: usize = 60;
+const SAMPLE_NANOSECONDS: f64 = 500_000.0;
 
 /// The nanoseconds of a call when all calls of a kind are made so many times over.
 fn sample(work: &Work, kind: Kind, side: Side, times: usize) -> f64 {
