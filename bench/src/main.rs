@@ -2,6 +2,7 @@
 //!
 //!     bench times NAME PICTURE ..        a row for each picture and kind of call
 //!     bench growth                       check of pictures that grow in ports, and in entries
+//!     bench picture PORTS CODE           one of these pictures on standard output
 //!     bench count SIDE KIND PICTURE N    all calls of a kind N times over, to be counted by callgrind
 
 mod calls;
@@ -10,6 +11,7 @@ mod plain;
 mod proved;
 
 use std::hint::black_box;
+use std::io::Write;
 use std::process::ExitCode;
 use std::time::Instant;
 
@@ -83,6 +85,11 @@ fn growth() {
     }
 }
 
+fn picture(ports: &str, code: &str) {
+    let bytes = growing::flat(ports.parse().expect("no number"), code.parse().expect("no number"));
+    std::io::stdout().write_all(&bytes).expect("nothing takes the picture");
+}
+
 fn count(side: &str, kind: &str, picture: &str, times: &str) {
     let work = Work::of(read(picture));
     let side = if side == "proved" { Side::Proved } else { Side::Plain };
@@ -98,6 +105,7 @@ fn main() -> ExitCode {
     match words.iter().map(String::as_str).collect::<Vec<_>>().as_slice() {
         ["times", ..] => times(&words[1..]),
         ["growth"] => growth(),
+        ["picture", ports, code] => picture(ports, code),
         ["count", side, kind, picture, n] => count(side, kind, picture, n),
         _ => return ExitCode::from(2),
     }
