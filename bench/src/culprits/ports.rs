@@ -1,0 +1,68 @@
+// Numbers 13 to 15: the lowest port that strays at a target, or whose own ID is lost.
+use crate::chassis::Conversion;
+use crate::claims::claims;
+use crate::claims::conversion;
+use crate::claims::holds;
+use crate::claims::own_id;
+use crate::ids::PortNo;
+use crate::ids::Target;
+use crate::picture::Culprit;
+use crate::trees::kind_at;
+use crate::trees::parent_at;
+
+// What may be wrong with a port by itself.
+#[derive(Clone, Copy)]
+pub enum Fault {
+    Stray(Target),
+    Lost,
+}
+
+// Whether port p is no root port and holds a target that its parent does not claim.
+fn strays_at(s: &[u8], t: Target, p: PortNo) -> bool {
+    !(kind_at(s, p) == 0) & holds(s, p, t) & !claims(s, parent_at(s, p), t)
+}
+
+// Whether a conversion is Type 0.
+fn is_type0(made: Conversion) -> bool {
+    match made {
+        Conversion::NotClaimed => false,
+        Conversion::Type0 => true,
+        Conversion::Type1 => false,
+        Conversion::Unsupported => false,
+    }
+}
+
+// Whether port p is no root port and its parent does not claim its own ID and convert it to Type 0.
+fn own_id_lost(s: &[u8], p: PortNo) -> bool {
+    let parent = parent_at(s, p);
+    let own = Target::Id(own_id(s, p));
+    !(kind_at(s, p) == 0) & !(claims(s, parent, own) & is_type0(conversion(s, parent, own)))
+}
+
+// Whether a port has a fault.
+fn has_fault(s: &[u8], fault: Fault, p: PortNo) -> bool {
+    match fault {
+        Fault::Stray(t) => strays_at(s, t, p),
+        Fault::Lost => own_id_lost(s, p),
+    }
+}
+
+// The lowest of n ports that has a fault.
+pub fn lowest(s: &[u8], n: u8, fault: Fault) -> Culprit {
+    let mut p: u8 = 0;
+    while p < n {
+        if has_fault(s, fault, PortNo(p)) {
+            return Culprit::Port(PortNo(p));
+        }
+        p += 1;
+    }
+    Culprit::Nobody
+}
+
+// The lowest of n ports that strays at a target; 255 where none does.
+pub fn lowest_stray(s: &[u8], n: u8, t: Target) -> PortNo {
+    match lowest(s, n, Fault::Stray(t)) {
+        Culprit::Port(p) => p,
+        Culprit::Nobody => PortNo(255),
+    }
+}

@@ -1,0 +1,11 @@
+// The calls for the chassis controller, which is written in C: include/fiswalend.h has them for C, and says what the caller
+// must see to.
+mod buffers;
+mod check_call;
+mod checked;
+mod refusals;
+mod walk_call;
+mod walked;
+
+pub use crate::fiswalend::check_call::fpb_check;
+pub use crate::fiswalend::walk_call::fpb_walk;

@@ -1,0 +1,53 @@
+// The ports of a place that have to do with a target: the two lowest.
+use crate::chassis::Holders;
+use crate::ids::PortNo;
+use crate::ids::Target;
+
+// Which ports of a place a rule looks at: those that hold the target, whose own it is, or that claim it.
+#[derive(Clone, Copy)]
+pub enum Regard {
+    Held,
+    Own,
+    Claimed,
+}
+
+// Whether a port is looked at.
+fn regarded(s: &[u8], t: Target, regard: Regard, p: PortNo) -> bool {
+    match regard {
+        Regard::Held => crate::claims::holds(s, p, t),
+        Regard::Own => crate::claims::is_own(s, p, t),
+        Regard::Claimed => crate::claims::claims(s, p, t),
+    }
+}
+
+// Whether a port stands at the place and is looked at: a port elsewhere costs one read.
+fn passes(s: &[u8], place: PortNo, t: Target, regard: Regard, p: PortNo) -> bool {
+    if crate::trees::parent_at(s, p).0 == place.0 {
+        regarded(s, t, regard, p)
+    } else {
+        false
+    }
+}
+
+// The two lowest so far, after port p was tried.
+fn with_port(found: Holders, p: PortNo, passes: bool) -> Holders {
+    if !passes {
+        return found;
+    }
+    match found {
+        Holders::Nobody => Holders::Only(p),
+        Holders::Only(q) => Holders::Both(q, p),
+        Holders::Both(q, r) => Holders::Both(q, r),
+    }
+}
+
+// The two lowest ports of a place, of n in all, that are looked at.
+pub fn lowest_at(s: &[u8], n: u8, place: PortNo, t: Target, regard: Regard) -> Holders {
+    let mut found = Holders::Nobody;
+    let mut p: u8 = 0;
+    while p < n {
+        found = with_port(found, PortNo(p), passes(s, place, t, regard, PortNo(p)));
+        p += 1;
+    }
+    found
+}

@@ -1,0 +1,48 @@
+// Where the vectors of each port lie (number 10), and each vector as a part of the picture.
+use crate::ids::PortNo;
+use crate::picture::Culprit;
+use crate::registers::port_at;
+use crate::registers::vector_bytes;
+use crate::registers::Fpb;
+use crate::registers::Mechanism;
+
+// The bytes of all vectors of a port.
+fn all_bytes(f: Fpb) -> u64 {
+    vector_bytes(f, Mechanism::Rid) + vector_bytes(f, Mechanism::Low) + vector_bytes(f, Mechanism::High)
+}
+
+// The lowest port whose vectors start elsewhere than at the running offset, or 255 if they do not end at the total.
+pub fn misplaced(s: &[u8], n: u8) -> Culprit {
+    let mut offset: u64 = 16 + 56 * (n as u64);
+    let mut p: u8 = 0;
+    while p < n {
+        let port = port_at(s, PortNo(p));
+        if port.vectors_at as u64 != offset {
+            return Culprit::Port(PortNo(p));
+        }
+        let f = port.fpb;
+        offset += all_bytes(f);
+        p += 1;
+    }
+    if offset != s.len() as u64 {
+        return Culprit::Port(PortNo(255));
+    }
+    Culprit::Nobody
+}
+
+// The bytes between the start of a port's vectors and one of them.
+fn offset_in(f: Fpb, m: Mechanism) -> u64 {
+    match m {
+        Mechanism::Rid => 0,
+        Mechanism::Low => vector_bytes(f, Mechanism::Rid),
+        Mechanism::High => vector_bytes(f, Mechanism::Rid) + vector_bytes(f, Mechanism::Low),
+    }
+}
+
+// A port's vector, as a part of the picture.
+pub fn vector(s: &[u8], p: PortNo, m: Mechanism) -> &[u8] {
+    let port = port_at(s, p);
+    let f = port.fpb;
+    let at = port.vectors_at as u64 + offset_in(f, m);
+    crate::lent::part(s, at as usize, vector_bytes(f, m) as usize)
+}

@@ -1,0 +1,37 @@
+//! The proved calls, which the command line of the build links (tools/bench.sh): a slice is a pointer and a length.
+
+extern "C" {
+    fn fpb_check(picture: *const u8, length: usize, answer: *mut u8, room: usize) -> u32;
+    fn fpb_walk(
+        picture: *const u8,
+        length: usize,
+        answer: *mut u8,
+        room: usize,
+        kind: u32,
+        start: u32,
+        target: u64,
+    ) -> u32;
+    fn timing_read(picture: *const u8, length: usize) -> u32;
+    fn timing_claim_id(picture: *const u8, length: usize, port: u32, id: u16) -> u32;
+    fn timing_claim_address(picture: *const u8, length: usize, port: u32, address: u64) -> u32;
+}
+
+pub fn check(picture: &[u8], answer: &mut [u8; 40]) -> u32 {
+    unsafe { fpb_check(picture.as_ptr(), picture.len(), answer.as_mut_ptr(), 40) }
+}
+
+pub fn walk(picture: &[u8], answer: &mut [u8; 40], kind: u32, start: u32, target: u64) -> u32 {
+    unsafe { fpb_walk(picture.as_ptr(), picture.len(), answer.as_mut_ptr(), 40, kind, start, target) }
+}
+
+pub fn read(picture: &[u8]) -> u32 {
+    unsafe { timing_read(picture.as_ptr(), picture.len()) }
+}
+
+pub fn claim_id(picture: &[u8], port: u32, id: u16) -> u32 {
+    unsafe { timing_claim_id(picture.as_ptr(), picture.len(), port, id) }
+}
+
+pub fn claim_address(picture: &[u8], port: u32, address: u64) -> u32 {
+    unsafe { timing_claim_address(picture.as_ptr(), picture.len(), port, address) }
+}

@@ -1,0 +1,83 @@
+// Numbers 8 and 9: what the registers of a port that reads keep to.
+use crate::registers::fields::enabled;
+use crate::registers::fields::granularity_code;
+use crate::registers::fields::settings;
+use crate::registers::fields::size_code;
+use crate::registers::fields::supported;
+use crate::registers::Bridge;
+use crate::registers::Fpb;
+use crate::registers::Mechanism;
+use crate::registers::Port;
+
+// A size code that the table of settings does not have.
+fn size_reserved(f: Fpb, m: Mechanism) -> bool {
+    let code = size_code(f, m);
+    match m {
+        Mechanism::Rid => !((code == 0) | (code == 2) | (code == 5)),
+        Mechanism::Low => 4 < code,
+        Mechanism::High => 5 < code,
+    }
+}
+
+// A granularity that the size allows.
+fn granularity_allowed(f: Fpb, m: Mechanism) -> bool {
+    let size = size_code(f, m);
+    let code = granularity_code(f, m);
+    match m {
+        Mechanism::Rid => {
+            (code == 0) | ((code == 3) & ((size == 0) | (size == 2))) | ((code == 5) & (size == 0))
+        }
+        Mechanism::Low => code + size <= 4,
+        Mechanism::High => code <= 7,
+    }
+}
+
+// The part of number 8 that each mechanism has.
+fn mechanism_wrong(f: Fpb, m: Mechanism) -> bool {
+    (enabled(f, m) & !supported(f, m))
+        | (supported(f, m) & size_reserved(f, m))
+        | (enabled(f, m) & !granularity_allowed(f, m))
+}
+
+// The part of number 8 about bits 3:0 of the Memory and Prefetchable registers.
+fn memory_bits_wrong(b: Bridge) -> bool {
+    !(b.memory_base % 16 == 0)
+        | !(b.memory_limit % 16 == 0)
+        | (1 < b.prefetchable_base % 16)
+        | !(b.prefetchable_base % 16 == b.prefetchable_limit % 16)
+}
+
+// Number 8.
+pub fn settings_wrong(p: Port) -> bool {
+    let f = p.fpb;
+    let b = p.bridge;
+    mechanism_wrong(f, Mechanism::Rid)
+        | mechanism_wrong(f, Mechanism::Low)
+        | mechanism_wrong(f, Mechanism::High)
+        | memory_bits_wrong(b)
+}
+
+// ARI Forwarding Enable, which means nothing on an upstream port.
+pub fn with_ari(p: Port) -> bool {
+    !(p.kind == 1) & ((p.device_control_2 >> 5) % 2 == 1)
+}
+
+// How many targets an entry stands for.
+fn granule(scale: u32) -> u64 {
+    1 << scale
+}
+
+// An enabled start that is no multiple of the granularity.
+fn start_broken(f: Fpb, m: Mechanism) -> bool {
+    let g = settings(f, m);
+    enabled(f, m) & !(g.start % granule(g.scale) == 0)
+}
+
+// Number 9.
+pub fn start_wrong(p: Port) -> bool {
+    let f = p.fpb;
+    start_broken(f, Mechanism::Rid)
+        | start_broken(f, Mechanism::Low)
+        | start_broken(f, Mechanism::High)
+        | (with_ari(p) & enabled(f, Mechanism::Rid) & !((f.rid_control_1 >> 19) % 32 == 0))
+}

@@ -1,0 +1,87 @@
+// The entries of a vector that count within a range: the next target that is hit, or missed.
+use crate::least::Found;
+use crate::spans::ranges;
+use crate::spans::ranges::Range;
+use crate::vectors::Settings;
+
+// A vector's settings, and the targets for which its entries count.
+#[derive(Clone, Copy)]
+pub struct Grid {
+    pub within: Range,
+    pub settings: Settings,
+}
+
+// Whether a target lies within the range and is hit.
+pub fn hit_in(v: &[u8], g: Grid, t: u64) -> bool {
+    ranges::contains(g.within, t) & crate::vectors::hit(v, g.settings, t)
+}
+
+// Where an entry begins, or `from` if that is later; an entry past the last target begins nowhere.
+fn begin(s: Settings, from: u64, i: u64) -> Found {
+    let last = (u64::MAX - s.start) >> s.scale;
+    if last < i {
+        return Found::Nothing;
+    }
+    Found::At(ranges::later(from, s.start + (i << s.scale)))
+}
+
+// The next target whose entry is set.
+fn next_hit(v: &[u8], s: Settings, from: u64) -> Found {
+    let f = ranges::later(from, s.start);
+    let Found::At(i) = crate::vectors::next_entry(v, true, (f - s.start) >> s.scale, s.size) else {
+        return Found::Nothing;
+    };
+    begin(s, f, i)
+}
+
+// The next target whose entry is not set, or that has none.
+fn next_miss(v: &[u8], s: Settings, from: u64) -> Found {
+    if from < s.start {
+        return Found::At(from);
+    }
+    let Found::At(i) = crate::vectors::next_entry(v, false, (from - s.start) >> s.scale, s.size) else {
+        return begin(s, from, s.size);
+    };
+    begin(s, from, i)
+}
+
+// A finding, unless it lies above `hi`.
+pub fn clip(found: Found, hi: u64) -> Found {
+    match found {
+        Found::At(t) => {
+            if t <= hi {
+                Found::At(t)
+            } else {
+                Found::Nothing
+            }
+        }
+        Found::Nothing => Found::Nothing,
+    }
+}
+
+// The next target within the range that is hit, or the best so far, if that is sooner; the vector is read only if it can be.
+pub fn next_hit_in(v: &[u8], g: Grid, from: u64, best: Found) -> Found {
+    let within = g.within;
+    let f = ranges::later(from, within.lo);
+    if crate::least::is_by(best, f) {
+        return best;
+    }
+    crate::least::sooner(best, clip(next_hit(v, g.settings, f), within.hi))
+}
+
+// The next target out of the range, or missed; the vector is read only within the range.
+pub fn next_miss_in(v: &[u8], g: Grid, from: u64) -> Found {
+    let out = ranges::next_out(g.within, from);
+    if crate::least::is_by(out, from) {
+        return out;
+    }
+    crate::least::sooner(out, next_miss(v, g.settings, from))
+}
+
+// The same, from what was found before.
+pub fn miss_from(v: &[u8], g: Grid, found: Found) -> Found {
+    match found {
+        Found::At(i) => next_miss_in(v, g, i),
+        Found::Nothing => Found::Nothing,
+    }
+}

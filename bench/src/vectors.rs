@@ -1,0 +1,49 @@
+// A vector of entries, as the RID, MEM Low and MEM High vectors all are: which entry applies to a target, whether it is
+// set, and the next entry that is.
+use crate::least::Found;
+
+// A vector's size in entries, the target where entry 0 begins, and its granularity: an entry stands for 2^scale targets.
+#[derive(Clone, Copy)]
+pub struct Settings {
+    pub size: u64,
+    pub start: u64,
+    pub scale: u32,
+}
+
+// The entry that applies to a target.
+pub fn entry(g: Settings, t: u64) -> Found {
+    if t < g.start {
+        return Found::Nothing;
+    }
+    let i = (t - g.start) >> g.scale;
+    if i < g.size {
+        Found::At(i)
+    } else {
+        Found::Nothing
+    }
+}
+
+// Whether entry i is set; an entry past the vector's bytes is clear.
+pub fn is_set(v: &[u8], i: u64) -> bool {
+    (crate::lent::u8_at(v, (i / 8) as usize) >> (i % 8)) % 2 == 1
+}
+
+// Whether the entry that applies to a target is set.
+pub fn hit(v: &[u8], g: Settings, t: u64) -> bool {
+    match entry(g, t) {
+        Found::At(i) => is_set(v, i),
+        Found::Nothing => false,
+    }
+}
+
+// The next entry from `from` on, below the size, that is set, or, where that is wanted, clear.
+pub fn next_entry(v: &[u8], want: bool, from: u64, size: u64) -> Found {
+    let mut i = from;
+    while i < size {
+        if is_set(v, i) == want {
+            return Found::At(i);
+        }
+        i += 1;
+    }
+    Found::Nothing
+}
