@@ -1,7 +1,7 @@
 -- Laws of grids: from the lowest entry that is set, or clear, to the lowest target that is hit, or missed.
 -- Assumes nothing.
 use Prim.Native.Nat.{ℕ, suc, _+_, _-_, _*_, _/_, _%_, _^_, _≤_, _<_, max}
-use mathlib.Core.Path.{_≡_, refl, _∙_}
+use mathlib.Core.Path.{_≡_, refl, sym, ap, _∙_}
 use mathlib.Core.Bool.{Bool, true, false, not, cond, _&&_, _||_, Bool·beq}
 use mathlib.Core.List.{List}
 use native.Mathlib.Decide.{decLe, decLt}
@@ -13,14 +13,14 @@ use borrow.Author.Tests.{le-leb, lt-leb, lt-ltb, le-ltb}
 use Rattle.least.specs.declared.Found.{Found}
 use Rattle.least.specs.declared.Found.the-variants.{At, Nothing}
 use Rattle.least.specs.Least.{firstIn, soonest, isBy}
-use Rattle.least.proofs.Laws.{NoneIn, LeastAt, Least, of-range, least-is, at-is, none-is, is-at, is-none, none-part, first-above, here-at, either-first, best-by, none-empty, none-join}
+use Rattle.least.proofs.Laws.{NoneIn, LeastAt, Least, of-range, least-is, at-is, none-is, is-at, is-none, none-part, first-above, here-at, either-first, best-by, none-empty, none-join, soonest-nothing}
 use Rattle.vectors.specs.declared.Settings.{Settings}
 use Rattle.vectors.specs.Vectors.{entryAt, isSet, entryIs, hits}
 use Rattle.vectors.proofs.Laws.{entrySet, hits-from, hits-below, grid-first, grid-at, grid-none}
 use Rattle.spans.specs.declared.grids.Grid.{Grid}
 use Rattle.spans.specs.Ranges.{inRange, outOf}
 use Rattle.spans.specs.Grids.{hitIn, missedIn, unset, beginsFrom, clipped}
-use Rattle.spans.proofs.OfRanges.{below}
+use Rattle.spans.proofs.OfRanges.{below, above}
 
 zero-right : (a : Bool) → (a && false) ≡ false
 zero-right true = refl
@@ -211,6 +211,10 @@ module _ (v : List ℕ) (g : Grid) (from : ℕ) where
   unfolding hitIn inRange
   hit-within t l = rw (le-leb (g .within .lo) t l)
 
+  hit-outside : (t : ℕ) → inRange (g .within) t ≡ false → hitIn v g t ≡ false
+  unfolding hitIn
+  hit-outside t e = rw e
+
   before-within : NoneIn (hitIn v g) from (max from (g .within .lo))
   unfolding hitIn
   before-within = record { none = λ t l h. rw (below (g .within) t (omega arith)) }
@@ -218,6 +222,14 @@ module _ (v : List ℕ) (g : Grid) (from : ℕ) where
   -- the best so far comes no later than the range, or than where the search begins
   pub hit-in-best : (best : Found) → isBy best (max from (g .within .lo)) ≡ true → best ≡ soonest best (firstIn (hitIn v g) from (2 ^ 64))
   hit-in-best best e = best-by best (2 ^ 64) e before-within
+
+  -- the search begins past the range
+  pub hit-in-past : (best : Found) → g .within .hi < max from (g .within .lo) → best ≡ soonest best (firstIn (hitIn v g) from (2 ^ 64))
+  hit-in-past best past = sym (soonest-nothing best) ∙ ap (soonest best) (none-is (record { none = λ t l h. out t l (decLt t (g .within .lo)) }))
+    where
+      out : (t : ℕ) → from ≤ t → Dec (t < g .within .lo) → hitIn v g t ≡ false
+      out t l (yes b) = hit-outside t (below (g .within) t b)
+      out t l (no b) = hit-outside t (above (g .within) t (omega arith))
 
   pub hit-in : clipped (firstIn (hits v (g .settings)) (max from (g .within .lo)) (2 ^ 64)) (g .within .hi) ≡ firstIn (hitIn v g) from (2 ^ 64)
   hit-in =

@@ -88,6 +88,9 @@ pub fn next_hit_in(v: &[u8], g: Grid, from: u64, best: Found) -> Found
     if least::is_by(best, f) {
         return best;
     }
+    if within.hi < f {
+        return best;
+    }
     least::sooner(best, clip(next_hit(v, g.settings, f), within.hi))
 }
 
