@@ -1,7 +1,7 @@
 #!/usr/bin/env bash
-# The archive from C: installs it, compiles the tests and the example against it as C99, C11 and C++, and runs them. The kit's
-# own clang and linker do this on either kind of machine, under the kit's emulator on Arm; on x86-64 the host's compiler does it
-# too, where there is one. Last line: N passed, M failed.
+# The archive from C: installs it, compiles the header, the test program and the example, links them with it and runs them. The
+# kit's own clang, linker and loader do this on either kind of machine, on Arm under the kit's emulator. A compiler of the host
+# compiles them too, and on x86-64 links and runs them. Last line: N passed, M failed.
 set -u
 cd "$(dirname "$0")/.."
 . tools/kit.sh
@@ -24,9 +24,9 @@ expect() {
 
 # calls RUN..: runs the test program, and counts its own tests
 calls() {
-    "$@" samples >"$work/calls" 2>&1
-    grep -v ' passed, ' "$work/calls"
-    if [[ $(tail -n 1 "$work/calls") =~ ^([0-9]+)\ passed,\ ([0-9]+)\ failed$ ]]; then
+    "$@" samples >"$work/printed" 2>&1
+    grep -v ' passed, ' "$work/printed"
+    if [[ $(tail -n 1 "$work/printed") =~ ^([0-9]+)\ passed,\ ([0-9]+)\ failed$ ]]; then
         passed=$((passed + BASH_REMATCH[1])) failed=$((failed + BASH_REMATCH[2]))
     else
         failed=$((failed + 1))
@@ -55,32 +55,28 @@ example() {
 strict="-Wall -Wextra -Wpedantic -Werror"
 languages="c:c99 c:c11 c++:c++11 c++:c++17"
 
+# compiled COMMAND..: that the header by itself and the test program compile as each language
+compiled() {
+    local language words
+    for language in $languages; do
+        words="-x ${language%%:*} -std=${language#*:} $strict"
+        expect "header.c as ${language#*:}, by $1" "$@" $words tests/c/header.c
+        expect "calls.c as ${language#*:}, by $1" "$@" $words tests/c/calls.c
+    done
+}
+
 by_kit() {
-    local language
-    for language in $languages; do
-        expect "calls.c as ${language#*:} by the kit's clang" kit_cc "$work/calls.o" -x "${language%%:*}" -std="${language#*:}" \
-            $strict -isystem tests/c/headers -I "$work/lib/include" tests/c/calls.c
-        expect "calls.c as ${language#*:} linked" kit_link "$work/calls-${language#*:}" "$work/calls.o" "$work/lib/lib/libfiswalend.a"
+    local words="-isystem tests/c/headers -I $work/lib/include" program
+    compiled kit_cc "$work/object.o" $words
+    for program in tests/c/calls.c examples/chassis.c; do
+        expect "$program by the kit's clang" kit_cc "$work/object.o" -std=c99 $strict $words "$program"
+        expect "$program by the kit's linker" kit_link "$work/$(basename "$program" .c)" "$work/object.o" "$work/lib/lib/libfiswalend.a"
     done
-    calls run_x86 "$work/calls-c99"
-    expect "chassis.c by the kit's clang" kit_cc "$work/chassis.o" -std=c99 $strict -isystem tests/c/headers \
-        -I "$work/lib/include" examples/chassis.c
-    expect "chassis.c linked" kit_link "$work/chassis-kit" "$work/chassis.o" "$work/lib/lib/libfiswalend.a"
-    example run_x86 "$work/chassis-kit"
+    calls run_x86 "$work/calls"
+    example run_x86 "$work/chassis"
 }
 
-# the header by itself, by the host's compilers, on any machine
-by_host_header() {
-    local language compiler
-    for language in $languages; do
-        compiler=cc
-        [ "${language%%:*}" = c ] || compiler=c++
-        command -v "$compiler" >/dev/null || continue
-        expect "fiswalend.h as ${language#*:} by the host" "$compiler" -x "${language%%:*}" -std="${language#*:}" $strict \
-            -fsyntax-only -I "$work/lib/include" examples/chassis.c
-    done
-}
-
+# finds the installed library as a C project does, and links it
 by_host() {
     local words="-I $work/lib/include" libs="-L $work/lib/lib -lfiswalend"
     if command -v pkg-config >/dev/null; then
@@ -95,7 +91,7 @@ by_host() {
 
 expect "tools/install-lib.sh" tools/install-lib.sh "$work/lib"
 by_kit
-by_host_header
+if command -v cc >/dev/null && command -v c++ >/dev/null; then compiled cc -fsyntax-only -I "$work/lib/include"; fi
 if [ "$(uname -m)" = x86_64 ] && command -v cc >/dev/null; then by_host; fi
 echo "$passed passed, $failed failed"
 [ "$failed" -eq 0 ]

@@ -41,7 +41,7 @@ kit_link() {
     local tools out=$1
     shift
     tools=$(kit_tools) || return 1
-    "$(dirname "$tools")/bin/rattle-link" --target x86_64-unknown-linux-gnu --toolchain "$tools" -o "$out" "$@" 2>/dev/null
+    "$(dirname "$tools")/bin/rattle-link" --target x86_64-unknown-linux-gnu --toolchain "$tools" -o "$out" "$@"
 }
 
 # build NAME: proves and links what is not built yet, or has changed; quiet unless it fails.

@@ -40,7 +40,7 @@ use Rattle.judge.specs.Checking.{checkOf, checkAnswer, checkNumber}
 use Rattle.judge.specs.Walking.{packetOf, askedWrongly, refusedWalk, endedWalk, AskedGives, ReadGives, WalkGives}
 use Rattle.judge.proofs.Walks.{walk-only, sane-read, within-start}
 use Rattle.fiswalend.specs.Calls.{tooShort, returned, written, WalkLeaves, WalkCall}
-use Rattle.fiswalend.proofs.Buffers.{under-40}
+use Rattle.fiswalend.proofs.Forty.{under-40}
 use Rattle.fiswalend.proofs.WalkCalls.{walk-call-only}
 use Rattle.demands.specs.Demands.{Demand1, Demand1Buffer, Demand2, Demand3, Names, Overlap, OverlapExactly}
 use Rattle.demands.proofs.Numbers.{check-numbered, claim-numbered, convert-numbered, walk-numbered, never-zero}

@@ -1,6 +1,7 @@
 pub mod Numbers
 pub mod Demands
 pub mod Tests
+pub mod FourPorts
 pub mod Worked
 pub mod WorkedWalks
-pub mod WorkedPasses
+pub mod Doubled

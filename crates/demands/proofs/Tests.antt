@@ -1,7 +1,7 @@
 -- Tests of a number that no number passes together: own IDs and ranges.
 use Prim.Native.Nat.{ℕ, _≤_, _<_}
 use mathlib.Core.Bool.{Bool, true, false, not, _&&_, _||_}
-use mathlib.Core.Path.{_≡_, refl, sym, ap, _∙_}
+use mathlib.Core.Path.{_≡_, refl}
 use native.Mathlib.Omega.{arith}
 use lib.Dec.{eqb, leb}
 use borrow.Author.Tests.{eqb-true, leb-true, le-leb, lt-leb}
@@ -22,7 +22,14 @@ just o n g at-o = go (eqb o n) refl
     go true e = rw (← eqb-true o n e) at-o
     go false e = refl
 
--- two ranges apart, and one range within another
+-- a range whose start is above its end, two ranges apart, and one range within another
+pub empty : (lo hi x : ℕ) → hi < lo → between lo hi x ≡ false
+empty lo hi x order = go (leb lo x) refl
+  where
+    go : (a : Bool) → leb lo x ≡ a → (a && leb x hi) ≡ false
+    go false e = refl
+    go true e = lt-leb x hi (omega (arith, leb-true lo x e))
+
 pub apart : (lo hi lo′ hi′ x : ℕ) → hi < lo′ → (between lo hi x && between lo′ hi′ x) ≡ false
 apart lo hi lo′ hi′ x order = go (leb lo x) (leb x hi) refl
   where

@@ -1,22 +1,133 @@
--- The worked chassis reads. Assumes nothing.
-use mathlib.Core.Path.{_≡_, refl}
-use Rattle.least.specs.Least.{firstOf, firstIn}
+-- The worked chassis reads and passes the check, so demand 3 speaks of it. Assumes nothing.
+use Prim.Native.Nat.{ℕ, _^_}
+use mathlib.Core.Bool.{false, not, _&&_, _||_, and-comm, and-false, or-false}
+use mathlib.Core.Path.{_≡_, refl, _∙_}
+use native.Mathlib.Omega.{arith}
+use lib.Dec.{leb, ltb}
+use Rattle.ids.specs.declared.Target.{Target}
+use Rattle.ids.specs.declared.Target.the-variants.{Id, Addr}
+use Rattle.ids.specs.Ids.{busOf}
 use Rattle.lent.specs.Lent.{u16At, u32At}
-use Rattle.chassis.specs.Tree.{anyBelow, upstreamBroken, downstreamBroken, treeBroken, oneAbove, above, chainTooLong}
-use Rattle.registers.specs.Record.{bridgeAt, fpbAt, portAt}
-use Rattle.registers.specs.Rules.{sizeReserved, granularityAllowed, mechanismWrong, memoryBitsWrong, settingsWrong, withAri, startBroken, startWrong}
-use Rattle.registers.specs.Vectors.{settingsOf, vectorBytes}
-use Rattle.picture.specs.Header.{headerOf, lengthWrong, editionWrong, countWrong, totalWrong, offsetWrong}
-use Rattle.picture.specs.Layout.{runningOffset, placeWrong, endWrong}
-use Rattle.picture.specs.declared.Header.{Header}
+use Rattle.chassis.specs.declared.Verdict.{Verdict}
+use Rattle.chassis.specs.declared.Verdict.the-variants.{Clear, Shared, Stray, Lost}
+use Rattle.chassis.specs.Chassis.{Chassis, holds}
+use Rattle.chassis.specs.Check.{clash, clashesWith, shared, straysAt, stray, ownIdLost, verdictOf}
+use Rattle.chassis.specs.Findings.{NoneWith, SaysClear, Says}
+use Rattle.chassis.specs.OneEnd.{InRange, OneEnd}
+use Rattle.chassis.specs.Tree.{anyBelow}
+use Rattle.chassis.proofs.Bools.{never-both-values}
+use Rattle.chassis.proofs.Ports.{anyBelow-false}
+use Rattle.chassis.proofs.Verdicts.{verdict-says}
 use Rattle.picture.specs.declared.Reading.the-variants.{Read}
-use Rattle.picture.specs.Reading.{breaks, misplacedIn, portsReading, reading}
-use Rattle.demands.specs.Worked.{zeros, u16, u32, headerFor, recordOf, chassisWith, worked, doubled}
+use Rattle.picture.specs.Reading.{reading}
+use Rattle.registers.specs.Record.{bridgeAt, fpbAt, portAt}
+use Rattle.registers.specs.Rules.{withAri}
+use Rattle.claims.specs.Decoders.{between, busClaims, vectorClaims, memoryClaims, prefetchableClaims, lowClaims, highClaims, memorySpaceEnabled, claimsId, claimsAddress}
+use Rattle.claims.specs.Conversion.{inSecondaryRange, convertedByBus, converted}
+use Rattle.claims.specs.Claims.{chassisOf}
+use Rattle.judge.specs.Checking.{checkOf, checkAnswer, checkNumber}
+use Rattle.demands.specs.Worked.{zeros, u16, u32, headerFor, recordOf, chassisWith, worked}
+use Rattle.demands.proofs.Demands.{demand-3}
+use Rattle.demands.proofs.Tests.{either-or, empty, apart, within, never-both}
+use Rattle.demands.proofs.FourPorts.{fourPorts, reads, id, unshared-where}
 
--- four ports, and no vectors
-abbrev pub fourPorts : Header
-fourPorts = record { edition = 1; count = 4; total = 240; «records_at» = 16; «vectors_at» = 240 }
+abbrev c : Chassis
+c = chassisOf worked
 
 pub worked-reads : reading worked ≡ Read fourPorts
-unfolding zeros u16 u32 headerFor recordOf chassisWith reading portsReading misplacedIn breaks runningOffset placeWrong endWrong headerOf lengthWrong editionWrong countWrong totalWrong offsetWrong sizeReserved granularityAllowed mechanismWrong memoryBitsWrong settingsWrong withAri startBroken startWrong settingsOf vectorBytes bridgeAt fpbAt portAt anyBelow upstreamBroken downstreamBroken treeBroken oneAbove above chainTooLong firstOf firstIn u16At u32At
-worked-reads = refl
+worked-reads = reads 4
+
+-- what each port claims: its buses, and the one window or none
+buses : (n : ℕ)
+    → (c .claims 0 (id n) ≡ between 1 4 (busOf n))
+    × (c .claims 1 (id n) ≡ between 2 4 (busOf n))
+    × (c .claims 2 (id n) ≡ between 3 3 (busOf n))
+    × (c .claims 3 (id n) ≡ between 4 4 (busOf n))
+unfolding zeros u16 u32 headerFor recordOf chassisWith u16At u32At bridgeAt fpbAt portAt busClaims vectorClaims claimsId
+buses n = (or-false _, or-false _, or-false _, or-false _)
+
+windows : (a : ℕ)
+    → (c .claims 0 (Addr a) ≡ between 0xE0000000 0xE00FFFFF a)
+    × (c .claims 1 (Addr a) ≡ between 0xE0000000 0xE00FFFFF a)
+    × (c .claims 2 (Addr a) ≡ between 0xE0000000 0xE00FFFFF a)
+    × (c .claims 3 (Addr a) ≡ false)
+unfolding zeros u16 u32 headerFor recordOf chassisWith u16At u32At bridgeAt fpbAt portAt vectorClaims memoryClaims prefetchableClaims lowClaims highClaims memorySpaceEnabled claimsAddress
+windows a = (only-window, only-window, only-window, refl)
+  where
+    only-window : (((between 0xE0000000 0xE00FFFFF a || between 0xFFF00000 0x000FFFFF a) || ltb a (2 ^ 32) && false) || leb (2 ^ 32) a && false)
+        ≡ between 0xE0000000 0xE00FFFFF a
+    only-window = simp (empty 0xFFF00000 0x000FFFFF a (omega arith), and-false, or-false)
+
+-- no ID is held by the two downstream ports, and what a port holds is claimed by its parent
+module _ (n : ℕ) where
+  held-apart : (holds c (id n) 2 && holds c (id n) 3) ≡ false
+  unfolding zeros u16 u32 headerFor recordOf chassisWith u16At u32At bridgeAt fpbAt portAt busClaims vectorClaims claimsId holds
+  held-apart =
+      either-or 0x0200 n (λ m. c .claims 2 (id m)) (λ m. holds c (id m) 3) refl
+      (and-comm (c .claims 2 (id n)) (holds c (id n) 3)
+      ∙ either-or 0x0208 n (λ m. c .claims 3 (id m)) (λ m. c .claims 2 (id m)) refl
+      (and-comm (c .claims 3 (id n)) (c .claims 2 (id n))
+      ∙ rw (buses n .2, buses n .3) (apart 3 3 4 4 (busOf n) (omega arith))))
+
+  unshared-id : shared c (id n) ≡ false
+  unfolding zeros u16 u32 headerFor recordOf chassisWith u16At u32At bridgeAt fpbAt portAt busClaims vectorClaims claimsId
+  unshared-id = unshared-where 4 n refl held-apart
+
+  unstrayed-id : stray c (id n) ≡ false
+  unfolding zeros u16 u32 headerFor recordOf chassisWith u16At u32At bridgeAt fpbAt portAt busClaims vectorClaims claimsId holds anyBelow straysAt stray
+  unstrayed-id =
+      simp (
+        either-or 0x0100 n (λ m. c .claims 1 (id m)) (λ m. not (c .claims 0 (id m))) refl
+            (rw (buses n .0, buses n .1) (within 2 4 1 4 (busOf n) (omega arith) (omega arith))),
+        either-or 0x0200 n (λ m. c .claims 2 (id m)) (λ m. not (c .claims 1 (id m))) refl
+            (rw (buses n .1, buses n .2) (within 3 3 2 4 (busOf n) (omega arith) (omega arith))),
+        either-or 0x0208 n (λ m. c .claims 3 (id m)) (λ m. not (c .claims 1 (id m))) refl
+            (rw (buses n .1, buses n .3) (within 4 4 2 4 (busOf n) (omega arith) (omega arith))),
+      )
+
+  unshared-address : shared c (Addr n) ≡ false
+  unfolding zeros u16 u32 headerFor recordOf chassisWith u16At u32At portAt holds anyBelow clash clashesWith shared
+  unshared-address = simp (windows n .3, and-false)
+
+  unstrayed-address : stray c (Addr n) ≡ false
+  unfolding zeros u16 u32 headerFor recordOf chassisWith u16At u32At portAt holds anyBelow straysAt stray
+  unstrayed-address = simp (windows n .0, windows n .1, windows n .2, windows n .3, never-both)
+
+-- no own ID is lost
+kept : anyBelow (ownIdLost c) (c .tree .count) ≡ false
+unfolding zeros u16 u32 headerFor recordOf chassisWith u16At u32At bridgeAt fpbAt portAt withAri busClaims vectorClaims claimsId inSecondaryRange convertedByBus converted anyBelow ownIdLost
+kept = refl
+
+says-clear : SaysClear c
+says-clear =
+    record {
+      unshared = unshared;
+      unstrayed = unstrayed;
+      kept = anyBelow-false (ownIdLost c) (c .tree .count) .0 kept;
+    }
+  where
+    unshared : NoneWith (shared c)
+    unshared (Id rid) l = unshared-id (rid .0)
+    unshared (Addr a) l = unshared-address a
+
+    unstrayed : NoneWith (stray c)
+    unstrayed (Id rid) l = unstrayed-id (rid .0)
+    unstrayed (Addr a) l = unstrayed-address a
+
+-- where nothing is found the verdict is Clear
+clear-where : (d : Chassis) → SaysClear d → verdictOf d ≡ Clear
+clear-where d none = go (verdictOf d) (verdict-says d)
+  where
+    go : (v : Verdict) → Says d v → v ≡ Clear
+    go Clear says = refl
+    go (Shared t p q) says = never-both-values _ (says .least .passes) (none .unshared t (says .least .in-range))
+    go (Stray t p) says = never-both-values _ (says .least .passes) (none .unstrayed t (says .least .in-range))
+    go (Lost p) says = never-both-values _ (says .port .passes) (none .kept (p .0) (says .port .below))
+
+pub worked-passes : checkNumber (checkAnswer worked) ≡ 0
+unfolding checkOf
+worked-passes = rw worked-reads (rw (clear-where c says-clear))
+
+-- what demand 3 says of it
+pub worked-one-end : (t : Target) → InRange t → OneEnd (chassisOf worked) t
+worked-one-end = demand-3 worked worked-passes

@@ -3,10 +3,9 @@ use Prim.Native.Nat.{ℕ}
 use mathlib.Core.Bool.{false}
 use mathlib.Core.List.{List, [], _∷_}
 use mathlib.Core.Path.{_≡_, refl}
-use lib.ListN.{length}
 use Rattle.lent.specs.Lent.{u16At, u32At}
 use Rattle.chassis.specs.declared.End.{End}
-use Rattle.chassis.specs.declared.End.the-variants.{Device, Function, Host, Unsupported}
+use Rattle.chassis.specs.declared.End.the-variants.{Device, Function, Host, Unsupported, Doubled}
 use Rattle.chassis.specs.Chassis.{portNo, holds, withPort, lowestTwo, passesAt}
 use Rattle.chassis.specs.Tree.{anyBelow, isDevicePort}
 use Rattle.chassis.specs.Walk.{functionNumber, decided, downward, byHolders, soleHolder, deviceOr, comeTo, upward, fromBelow, underType0, underType1, next, Walk, ends, goes}
@@ -17,15 +16,16 @@ use Rattle.claims.specs.Conversion.{inSecondaryRange, convertedByBus, converted
 use Rattle.claims.specs.Claims.{chassisOf}
 use Rattle.judge.specs.Walking.{packetOf, idTooLarge, isStart, askedWrongly, endedWalk, WalkGives}
 use Rattle.trees.specs.Trees.{treeOf}
-use Rattle.demands.specs.Worked.{zeros, u16, u32, headerFor, recordOf, chassisWith, worked, portNos, cameTo, WorkedWalks}
-use Rattle.demands.proofs.Worked.{worked-reads}
+use Rattle.demands.specs.Worked.{zeros, u16, u32, headerFor, recordOf, chassisWith, portNos, cameTo, WorkedWalks}
+use Rattle.demands.proofs.FourPorts.{reads}
 
 -- an answer that the rules lead to is given
-given : (kind start target : ℕ) (crossed : List ℕ) (end : End) → askedWrongly (treeOf worked) kind start target ≡ false
-    → Walk (chassisOf worked) (packetOf kind target) (comeTo start) (portNos crossed) end → WalkGives worked kind start target (cameTo end crossed)
+given : (bus kind start target : ℕ) (crossed : List ℕ) (end : End) → askedWrongly (treeOf (chassisWith bus)) kind start target ≡ false
+    → Walk (chassisOf (chassisWith bus)) (packetOf kind target) (comeTo start) (portNos crossed) end
+    → WalkGives (chassisWith bus) kind start target (cameTo end crossed)
 unfolding endedWalk
-given kind start target crossed end right walk =
-    rw worked-reads
+given bus kind start target crossed end right walk =
+    rw (reads bus)
     (rw right (
       record { end = end; path = cameTo end crossed .path },
       record { crossed = portNos crossed; walk = walk; named = refl },
@@ -36,12 +36,13 @@ pub worked-walks : WorkedWalks
 unfolding zeros u16 u32 headerFor recordOf chassisWith u16At u32At bridgeAt fpbAt portAt withAri busClaims vectorClaims memoryClaims prefetchableClaims lowClaims highClaims memorySpaceEnabled claimsId claimsAddress inSecondaryRange convertedByBus converted holds withPort lowestTwo passesAt anyBelow isDevicePort functionNumber decided downward byHolders soleHolder deviceOr comeTo upward fromBelow underType0 underType1 next packetOf idTooLarge isStart askedWrongly
 worked-walks =
     record {
-      down = given 0 255 0x0300 (0 ∷ 1 ∷ 2 ∷ []) (Device (portNo 2) 0) refl (goes refl (goes refl (goes refl (ends refl))));
-      across = given 0 3 0x0300 (3 ∷ 2 ∷ []) (Device (portNo 2) 0) refl (goes refl (goes refl (ends refl)));
-      own-id = given 0 255 0x0200 (0 ∷ 1 ∷ []) (Function (portNo 2)) refl (goes refl (goes refl (ends refl)));
-      own-device = given 1 2 0xE0000000 [] (Unsupported (portNo 2)) refl (ends refl);
-      other-device = given 1 3 0xE0000000 (3 ∷ 2 ∷ []) (Device (portNo 2) 0) refl (goes refl (goes refl (ends refl)));
-      up = given 1 2 0 (2 ∷ 1 ∷ 0 ∷ []) Host refl (goes refl (goes refl (goes refl (ends refl))));
-      configures = given 2 255 0x0300 (0 ∷ 1 ∷ 2 ∷ []) (Device (portNo 2) 0) refl (goes refl (goes refl (goes refl (ends refl))));
-      refuses = given 2 255 0x0308 (0 ∷ 1 ∷ []) (Unsupported (portNo 2)) refl (goes refl (goes refl (ends refl)));
+      down = given 4 0 255 0x0300 (0 ∷ 1 ∷ 2 ∷ []) (Device (portNo 2) 0) refl (goes refl (goes refl (goes refl (ends refl))));
+      across = given 4 0 3 0x0300 (3 ∷ 2 ∷ []) (Device (portNo 2) 0) refl (goes refl (goes refl (ends refl)));
+      own-id = given 4 0 255 0x0200 (0 ∷ 1 ∷ []) (Function (portNo 2)) refl (goes refl (goes refl (ends refl)));
+      own-device = given 4 1 2 0xE0000000 [] (Unsupported (portNo 2)) refl (ends refl);
+      other-device = given 4 1 3 0xE0000000 (3 ∷ 2 ∷ []) (Device (portNo 2) 0) refl (goes refl (goes refl (ends refl)));
+      up = given 4 1 2 0 (2 ∷ 1 ∷ 0 ∷ []) Host refl (goes refl (goes refl (goes refl (ends refl))));
+      configures = given 4 2 255 0x0300 (0 ∷ 1 ∷ 2 ∷ []) (Device (portNo 2) 0) refl (goes refl (goes refl (goes refl (ends refl))));
+      refuses = given 4 2 255 0x0308 (0 ∷ 1 ∷ []) (Unsupported (portNo 2)) refl (goes refl (goes refl (ends refl)));
+      doubles = given 3 0 255 0x0300 (0 ∷ 1 ∷ []) (Doubled (portNo 2) (portNo 3)) refl (goes refl (goes refl (ends refl)));
     }

@@ -1,10 +1,10 @@
 -- A worked chassis, so that no demand is empty: a picture of a root port, a switch below it, and a device below each of its two
--- downstream ports. proofs/Worked.antt shows that it passes the check and computes walks through it; the second picture, which
--- differs in one port's buses, fails.
+-- downstream ports. It passes the check (proofs/Worked.antt), and walks through it are computed (proofs/WorkedWalks.antt); a picture
+-- that differs in one port's bus fails (proofs/Doubled.antt).
 use Prim.Native.Nat.{ℕ, zero, suc, _+_, _*_, _/_, _%_}
 use mathlib.Core.List.{List, [], _∷_, _++_}
 use Rattle.chassis.specs.declared.End.{End}
-use Rattle.chassis.specs.declared.End.the-variants.{Device, Function, Host, Unsupported}
+use Rattle.chassis.specs.declared.End.the-variants.{Device, Function, Host, Unsupported, Doubled}
 use Rattle.chassis.specs.Chassis.{portNo}
 use Rattle.paths.specs.Paths.{pathOf}
 use Rattle.ids.specs.declared.PortNo.{PortNo}
@@ -80,3 +80,5 @@ pub record WorkedWalks : Type 0 where
   -- configuration requests for Function 0 of the device below port 2, and for a device number that it cannot have
   pub configures : WalkGives worked 2 255 0x0300 (cameTo (Device (portNo 2) 0) (0 ∷ 1 ∷ 2 ∷ []))
   pub refuses : WalkGives worked 2 255 0x0308 (cameTo (Unsupported (portNo 2)) (0 ∷ 1 ∷ []))
+  -- and where both downstream ports have bus 3, the first of these ends below port 1
+  pub doubles : WalkGives doubled 0 255 0x0300 (cameTo (Doubled (portNo 2) (portNo 3)) (0 ∷ 1 ∷ []))

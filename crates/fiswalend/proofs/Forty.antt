@@ -18,6 +18,6 @@ unfolding tooShort
 has-40 before l = le-ltb (length before) 40 l
 
 -- 40 bytes are written and the rest kept
-pub copied-40 : (forty before : List ℕ) → length forty ≡ 40
-    → take (length forty) forty ++ drop (length forty) before ≡ forty ++ drop 40 before
-copied-40 forty before whole = rw (whole, take-all 40 forty (omega arith))
+pub copied-40 : (forty before after : List ℕ) → length forty ≡ 40 → after ≡ take (length forty) forty ++ drop (length forty) before
+    → after ≡ forty ++ drop 40 before
+copied-40 forty before after whole copied = rw (whole, take-all 40 forty (omega arith)) at copied

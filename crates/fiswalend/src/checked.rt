@@ -21,6 +21,7 @@ fn by_target(t: Target, id: u8, address: u8) -> u8
     }
 }
 
+// A least target as the number that is written.
 fn target_number(t: Target) -> u64
     ensures { λ r. ⌜ r ≡ targetNumber t ⌝ }
 {
@@ -44,6 +45,7 @@ fn found_head(number: u8, port: PortNo, second: PortNo) -> Head
     }
 }
 
+// What the check found: numbers 11 to 15, or 0.
 fn verdict_bytes(v: Verdict) -> [u8; 40]
     ensures { λ r. ⌜ r ≡ verdictBytes v ⌝ }
 {
@@ -62,6 +64,7 @@ fn verdict_bytes(v: Verdict) -> [u8; 40]
     }
 }
 
+// A refusal of the reading, or what the check found.
 pub fn check_bytes(a: CheckAnswer) -> [u8; 40]
     ensures { λ r. ⌜ r ≡ checkBytes a ⌝ }
 {

@@ -1,8 +1,9 @@
-// The walk call: the picture, the answer buffer, packet kind, start and target.
+// The walk call.
 use crate::buffers::write;
 use crate::walked::walk_bytes;
 ghost use Rattle.fiswalend.specs.Calls.{WalkCall};
 
+// Where a packet goes: the number, and the answer in the buffer.
 #[no_mangle]
 pub extern "C" fn fpb_walk(
     picture: &[u8],

@@ -46,6 +46,7 @@ fn outcome_head(o: Outcome, crossings: u8) -> Head
     }
 }
 
+// The outcome, and the ports crossed.
 pub fn walk_bytes(a: WalkAnswer) -> [u8; 40]
     requires { ⌜ a .path .count < 256 ⌝ }
     ensures { λ r. ⌜ r ≡ walkBytes a ⌝ }

@@ -1,4 +1,4 @@
-use mathlib.Core.Path.{refl, _∙_}
+use mathlib.Core.Path.{refl}
 use Rattle.fiswalend.proofs.Forty.{copied-40}
 use borrow.Author.Needs.{needs}
 use Rattle.fiswalend.proofs.buffers.write.Statement.{statement}
@@ -20,7 +20,7 @@ same-length : tie.Need-same-length
 same-length c = search needs
 
 returns : tie.Need-returns
-returns c = (refl, c .before .before .copy .ensures .1 ∙ copied-40 (c .before .before .before .before .before .before .args .t1) (c .before .before .before .before .before .before .args .answer .now) (c .before .before .before .before .before .before .good .0 .1 .0 .1))
+returns c = (refl, copied-40 (c .before .before .before .before .before .before .args .t1) (c .before .before .before .before .before .before .args .answer .now) _ (c .before .before .before .before .before .before .good .0 .1 .0 .1) (c .before .before .copy .ensures .1))
 
 pub write-spec : {M : Type 1} → statement M
 write-spec =

@@ -16,7 +16,7 @@ check-bytes-requires : tie.Need-check-bytes-requires
 check-bytes-requires c κs = search needs
 
 write-requires : tie.Need-write-requires
-write-requires c κs = search needs
+write-requires c κs = omega arith
 
 same-length : tie.Need-same-length
 same-length c = search needs

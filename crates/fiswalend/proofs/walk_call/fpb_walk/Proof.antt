@@ -15,7 +15,7 @@ walk-bytes-requires : tie.Need-walk-bytes-requires
 walk-bytes-requires c κs = omega (arith, crossings-few _ _ _ _ _ (c .walk .ensures))
 
 write-requires : tie.Need-write-requires
-write-requires c κs = search needs
+write-requires c κs = omega arith
 
 same-length : tie.Need-same-length
 same-length c = search needs

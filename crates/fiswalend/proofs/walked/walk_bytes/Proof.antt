@@ -14,7 +14,7 @@ with-path-requires c κs = search needs
 
 returns : tie.Need-returns
 unfolding walkBytes walkHead
-returns c = rw (← c .before .outcome-head .ensures) (c .with-path .ensures)
+returns c = rw (c .before .outcome-head .ensures) at (c .with-path .ensures)
 
 pub walk-bytes-spec : {M : Type 1} → statement M
 walk-bytes-spec =

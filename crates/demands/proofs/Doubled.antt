@@ -1,0 +1,70 @@
+-- The picture that differs from the worked one in one port's buses fails: ID 0300h is the least that two ports hold. Assumes nothing.
+use Prim.Native.Nat.{ℕ, _<_, zero-le}
+use mathlib.Core.Bool.{true, false, _&&_}
+use mathlib.Core.Logic.{inl}
+use mathlib.Core.Path.{_≡_, refl}
+use native.Mathlib.Omega.{arith}
+use borrow.Author.Tests.{lt-leb}
+use Rattle.ids.specs.declared.Target.the-variants.{Id}
+use Rattle.ids.specs.declared.Space.the-variants.{Ids}
+use Rattle.ids.specs.Ids.{busOf}
+use Rattle.least.specs.declared.Found.the-variants.{At}
+use Rattle.least.specs.Least.{firstOf, firstIn}
+use Rattle.lent.specs.Lent.{u16At, u32At}
+use Rattle.chassis.specs.declared.Verdict.the-variants.{Shared}
+use Rattle.chassis.specs.Chassis.{Chassis, portNo, holds}
+use Rattle.chassis.specs.Check.{clash, clashesWith, shared, leastTarget, firstOfPair, secondOfPair, verdictOf}
+use Rattle.chassis.specs.Tree.{anyBelow}
+use Rattle.chassis.proofs.LeastTarget.{leastTarget-is}
+use Rattle.registers.specs.Record.{bridgeAt, fpbAt, portAt}
+use Rattle.claims.specs.Decoders.{busClaims, vectorClaims, claimsId}
+use Rattle.claims.specs.Claims.{chassisOf}
+use Rattle.judge.specs.declared.CheckAnswer.the-variants.{Judged}
+use Rattle.judge.specs.Checking.{checkOf, checkAnswer, checkNumber}
+use Rattle.demands.specs.Demands.{Overlap}
+use Rattle.demands.specs.Worked.{zeros, u16, u32, headerFor, recordOf, chassisWith, doubled}
+use Rattle.demands.proofs.Demands.{overlap-exactly}
+use Rattle.demands.proofs.Tests.{either-or}
+use Rattle.demands.proofs.FourPorts.{fourPorts, reads, id, unshared-where}
+
+abbrev c : Chassis
+c = chassisOf doubled
+
+-- below 0300h no ID is held by two ports, and none is claimed by the port whose own it is
+module _ (n : ℕ) (below : n < 0x0300) where
+  unclaimed : c .claims 2 (id n) ≡ false
+  unfolding zeros u16 u32 headerFor recordOf chassisWith u16At u32At bridgeAt fpbAt portAt busClaims vectorClaims claimsId
+  unclaimed = rw (lt-leb 3 (busOf n) (omega arith))
+
+  held-apart : (holds c (id n) 2 && holds c (id n) 3) ≡ false
+  unfolding zeros u16 u32 headerFor recordOf chassisWith u16At u32At bridgeAt fpbAt portAt busClaims vectorClaims claimsId holds
+  held-apart = either-or 0x0200 n (λ m. c .claims 2 (id m)) (λ m. holds c (id m) 3) refl (rw unclaimed)
+
+  unshared : shared c (id n) ≡ false
+  unfolding zeros u16 u32 headerFor recordOf chassisWith u16At u32At bridgeAt fpbAt portAt busClaims vectorClaims claimsId
+  unshared = unshared-where 3 n refl held-apart
+
+both-hold : shared c (id 0x0300) ≡ true
+unfolding zeros u16 u32 headerFor recordOf chassisWith u16At u32At bridgeAt fpbAt portAt busClaims vectorClaims claimsId holds anyBelow clash clashesWith shared
+both-hold = refl
+
+least : leastTarget (shared c) Ids ≡ At 0x0300
+least =
+    leastTarget-is (shared c) Ids (At 0x0300) .1
+    (record { from = zero-le; below = omega arith; holds = both-hold; first = record { none = λ n l below. unshared n below } })
+
+pair : (firstOfPair c (id 0x0300) ≡ portNo 2) × (secondOfPair c (id 0x0300) ≡ portNo 3)
+unfolding zeros u16 u32 headerFor recordOf chassisWith u16At u32At bridgeAt fpbAt portAt busClaims vectorClaims claimsId holds anyBelow clash clashesWith firstOf firstIn
+pair = (refl, refl)
+
+-- the least such target is shown, with its ports
+pub doubled-shown : checkAnswer doubled ≡ Judged (Shared (Id (record { 0 = 0x0300 })) (portNo 2) (portNo 3))
+unfolding checkOf verdictOf
+doubled-shown = rw (reads 3) (rw (least, pair .1, pair .0))
+
+pub doubled-fails : checkNumber (checkAnswer doubled) ≡ 11
+doubled-fails = rw doubled-shown
+
+-- and by the other half of demand 3 it has an overlap
+pub doubled-overlaps : Overlap (chassisOf doubled)
+doubled-overlaps = overlap-exactly doubled fourPorts (reads 3) .exactly .0 (inl doubled-fails)

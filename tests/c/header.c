@@ -1,0 +1,3 @@
+/* The header stands by itself, and may be included twice. */
+#include "fiswalend.h"
+#include "fiswalend.h"
