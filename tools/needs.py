@@ -1,0 +1,116 @@
+#!/usr/bin/env python3
+"""Answers to a proof's needs without counting `.before`. Run it in the repository.
+
+    tools/needs.py CRATE FUNCTION       what is known at each need of a function, nearest first, after `rt goals CRATE`
+    tools/needs.py tidy                 drops from every Proof.antt the places, and the names that it does not use
+
+From Python: `fill(crate, function, {need: answer}, uses, unfolding, inv, measure)` writes answers into the function's
+Proof.antt, where `@thing` (@args, @pre, @if1, @loop, a callee's name ..) stands for the path into `c` to what bound it;
+`uses` are lines to import. A function in a module is written module/function. The places of a call's `-requires` are not
+always found: count those by hand."""
+import glob
+import re
+import subprocess
+import sys
+
+
+def places(crate, function):
+    """The records of a function's places, and the record of each need."""
+    (file,) = glob.glob(f"target/goals/{crate}/*proofs/proofs/{function}/Lts.antt")
+    records, needs, record, need = {}, {}, None, None
+    for line in open(file):
+        if found := re.match(r" +pub record (\S+) : Type", line):
+            record = found.group(1)
+            records[record] = {"before": None, "binds": []}
+        elif (found := re.match(r" +pub (\S+) : (\S+)", line)) and record:
+            if found.group(1) == "before":
+                records[record]["before"] = found.group(2)
+            else:
+                records[record]["binds"].append(found.group(1))
+        elif found := re.match(r" +Need-(\S+) =", line):
+            need = found.group(1)
+            needs.setdefault(need, None)
+        elif (found := re.match(r" +\(c : ([^\s)]+)", line)) and need and needs[need] is None:
+            needs[need] = found.group(1)
+    return records, needs
+
+
+def way_back(records, record):
+    while record in records:
+        yield records[record]["binds"]
+        record = records[record]["before"]
+
+
+def path(crate, function, need, thing):
+    records, needs = places(crate, function)
+    for depth, binds in enumerate(way_back(records, needs[need])):
+        if thing in binds:
+            return "c" + " .before" * depth + " ." + thing
+    raise KeyError(f"{function}: {need} knows of no {thing}")
+
+
+def show(crate, function):
+    subprocess.run(["rt", "goals", crate], capture_output=True)
+    records, needs = places(crate, function)
+    for need, record in needs.items():
+        print(need, *("/".join(binds) for binds in way_back(records, record)), sep="  ")
+
+
+def fill(crate, function, answers, uses=(), unfolding=None, inv=None, measure=None):
+    file = f"crates/{crate}/proofs/{function}/Proof.antt"
+    text = open(file).read()
+    for name, body in (("Inv-loop", inv), ("μ-loop", measure)):
+        if body:
+            text = re.sub(rf"(\n{name} [^\n=]*)=[^\n]*(\n    [^\n]*)*", lambda m: f"{m.group(1)}= {body}", text)
+    for need, answer in answers.items():
+        opened, answer = answer if isinstance(answer, tuple) else (unfolding, answer)
+        answer = re.sub(r"@([\w'-]+)", lambda m: path(crate, function, need, m.group(1)), answer)
+        name = re.escape(need)
+        text, done = re.subn(
+            rf"({name} : tie\.Need-{name}[^\n]*\n)(?:unfolding [^\n]*\n)?{name} (c(?: κs)?) =[^\n]*(?:\n    [^\n]*)*",
+            lambda m: m.group(1) + (f"unfolding {opened}\n" if opened else "") + f"{need} {m.group(2)} = {answer}", text, count=1)
+        if not done:
+            raise KeyError(f"{file}: no answer to {need}")
+    for line in uses:
+        if line not in text:
+            text = line + "\n" + text
+    open(file, "w").write(text)
+
+
+def used(name, text):
+    operator = name.strip("_")
+    if name.startswith("_") and operator:
+        return operator in text
+    return re.search(rf"(?<![\w·-]){re.escape(name)}(?![\w·-])", text)
+
+
+def tidied(text):
+    text = re.sub(r"(?m)^-- src/\S+:\d+:\d+\n", "", text)
+    for found in re.finditer(r"(?m)^use \S+ as (\S+)\n", text):
+        rest = text.replace(found.group(0), "")
+        if found.group(1) != "tie" and not re.search(rf"(?<![\w·.-]){re.escape(found.group(1))}\.", rest):
+            text = rest
+    for found in re.finditer(r"(?m)^use (\S+)\.\{([^}]*)\}\n", text):
+        names = [name.strip() for name in found.group(2).split(",")]
+        rest = text.replace(found.group(0), "", 1)
+        kept = [name for name in names if used(name.split(" as ")[-1], rest)]
+        if kept != names:
+            text = text.replace(found.group(0), f"use {found.group(1)}.{{{', '.join(kept)}}}\n" if kept else "", 1)
+    return re.sub(r"\n{3,}", "\n\n", text)
+
+
+def tidy():
+    for file in glob.glob("crates/*/proofs/**/Proof.antt", recursive=True):
+        text = open(file).read()
+        if tidied(text) != text:
+            open(file, "w").write(tidied(text))
+            print(file)
+
+
+if __name__ == "__main__":
+    if sys.argv[1:] == ["tidy"]:
+        tidy()
+    elif len(sys.argv) == 3:
+        show(*sys.argv[1:])
+    else:
+        sys.exit(__doc__)
