@@ -17,7 +17,14 @@ give_up() {
     exit 1
 }
 
-command -v cargo >/dev/null || apt-get install -y cargo >/dev/null 2>&1 || give_up "cargo is missing, and apt-get does not install it"
+# cargo of this machine, or of Debian's packages; the plain one of Debian 12 is too old for the second program
+find_cargo() {
+    PATH=$PATH:$HOME/.cargo/bin
+    command -v cargo >/dev/null && return
+    apt-get update && { apt-get install -y cargo-web || apt-get install -y cargo; }
+}
+
+find_cargo >/dev/null 2>&1 || give_up "cargo is missing, and apt-get does not install it"
 rm -rf "$work"
 mkdir -p "$work"
 (cd second && cargo build --release --offline --quiet) || give_up "the second program does not build"
