@@ -43,11 +43,11 @@ use Rattle.fiswalend.specs.Calls.{tooShort, returned, written, WalkLeaves, Walk
 use Rattle.fiswalend.proofs.Forty.{under-40}
 use Rattle.fiswalend.proofs.WalkCalls.{walk-call-only}
 use Rattle.demands.specs.Demands.{Demand1, Demand1Buffer, Demand2, Demand3, Names, Overlap, OverlapExactly}
-use Rattle.demands.proofs.Numbers.{check-numbered, claim-numbered, convert-numbered, walk-numbered, never-zero}
+use Rattle.demands.proofs.Numbers.{reading-in-table, check-numbered, claim-numbered, convert-numbered, walk-numbered, never-zero}
 
 pub demand-1 : (s : List ℕ) → Demand1 s
 demand-1 s =
-    record { check = check-numbered s; walk = walk-numbered s; claim = claim-numbered s; convert = convert-numbered s }
+    record { reading = reading-in-table s; check = check-numbered s; walk = walk-numbered s; claim = claim-numbered s; convert = convert-numbered s }
 
 pub demand-1-buffer : (s before : List ℕ) → Demand1Buffer s before
 unfolding returned written

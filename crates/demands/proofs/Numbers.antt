@@ -22,7 +22,7 @@ use Rattle.picture.specs.declared.Reading.the-variants.{Read, Refused}
 use Rattle.picture.specs.declared.Refusal.{Refusal}
 use Rattle.picture.specs.declared.Rule.the-variants.{Tree, Chain, Settings, Start}
 use Rattle.picture.specs.Header.{headerOf, lengthWrong, editionWrong, countWrong, totalWrong, offsetWrong}
-use Rattle.picture.specs.Reading.{breaks, misplacedIn, refusedIf, refusedAt, portsReading, reading}
+use Rattle.picture.specs.Reading.{breaks, misplacedIn, refusedIf, refusedAt, portsReading, reading, numberOf}
 use Rattle.claims.specs.Claims.{chassisOf}
 use Rattle.judge.specs.declared.WalkAnswer.{WalkAnswer}
 use Rattle.judge.specs.Checking.{checkOf, checkAnswer, checkNumber}
@@ -96,6 +96,17 @@ verdict-numbered (Stray (Addr a) p) = refl
 verdict-numbered (Lost p) = refl
 
 module _ (s : List ℕ) where
+  pub reading-in-table : oneOf ofReading (numberOf (reading s)) ≡ true
+  reading-in-table = go (reading s) (reading-numbered s)
+    where
+      either : (n : ℕ) (b : Bool) → oneOf refusals n ≡ true → (b || oneOf refusals n) ≡ true
+      either n true told = refl
+      either n false told = told
+
+      go : (got : Reading) → Numbered got → oneOf ofReading (numberOf got) ≡ true
+      go (Refused r) told = either (r .number) (eqb (r .number) 0) told
+      go (Read h) told = refl
+
   pub check-numbered : oneOf ofCheck (checkNumber (checkAnswer s)) ≡ true
   unfolding checkOf
   check-numbered = go (reading s) (reading-numbered s)

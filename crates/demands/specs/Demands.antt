@@ -18,6 +18,7 @@ use Rattle.chassis.specs.OneEnd.{InRange, OneEnd}
 use Rattle.chassis.specs.Walk.{Walk, comeTo}
 use Rattle.paths.specs.declared.Path.{Path}
 use Rattle.paths.specs.Paths.{noPort}
+use Rattle.picture.specs.Reading.{numberOf, reading as picture·reading}
 use Rattle.claims.specs.Claims.{chassisOf}
 use Rattle.judge.specs.declared.CheckAnswer.the-variants.{Judged}
 use Rattle.judge.specs.declared.WalkAnswer.{WalkAnswer}
@@ -48,6 +49,7 @@ ofAsking = ofReading ++ (16 ∷ [])
 -- Demand 1: "Any bytes may be lent as a picture, with any ID, address or start. Each call ends with one answer from the paper's table."
 -- (That each call ends, and only reads the picture, is part of every proved contract.)
 pub record Demand1 (s : List ℕ) : Type 0 where
+  pub reading : oneOf ofReading (numberOf (picture·reading s)) ≡ true
   pub check : oneOf ofCheck (checkNumber (checkAnswer s)) ≡ true
   pub walk : (kind start target : ℕ) (a : WalkAnswer) → WalkGives s kind start target a → oneOf ofAsking (outcomeNumber (a .outcome)) ≡ true
   pub claim : (port : ℕ) (t : Target) → oneOf ofAsking (claimNumber (claimAnswer s port t)) ≡ true
