@@ -7,7 +7,8 @@ use native.Mathlib.Omega.{arith}
 use Rattle.ids.specs.declared.PortNo.{PortNo}
 use Rattle.ids.specs.declared.Target.{Target}
 use Rattle.chassis.specs.declared.Holders.the-variants.{Only, Both}
-use Rattle.chassis.specs.Chassis.{Chassis, portNo, isOwn, holds, passesAt, lowestAt}
+use Rattle.ids.specs.Ids.{portNo}
+use Rattle.chassis.specs.Chassis.{Chassis, isOwn, holds, passesAt, lowestAt}
 use Rattle.chassis.specs.Check.{shared, stray}
 use Rattle.chassis.specs.Tree.{rootPort}
 use Rattle.chassis.proofs.Bools.{never-both-values}

@@ -16,7 +16,8 @@ use Rattle.chassis.specs.declared.Step.{Step}
 use Rattle.chassis.specs.declared.Step.the-variants.{Stop, Cross}
 use Rattle.chassis.specs.declared.Whereabouts.{Whereabouts}
 use Rattle.chassis.specs.declared.Whereabouts.the-variants.{Root, Into, From}
-use Rattle.chassis.specs.Chassis.{Chassis, portNo, holds, lowestAt}
+use Rattle.ids.specs.Ids.{portNo}
+use Rattle.chassis.specs.Chassis.{Chassis, holds, lowestAt}
 use Rattle.chassis.specs.Tree.{root, rootPort, upstream, standsAt, isDevicePort}
 use Rattle.chassis.specs.Walk.{byHolders, soleHolder, downward, atPlace, deviceOr, comeTo, upward, fromBelow, next, Walk, ends, goes}
 use Rattle.chassis.proofs.Bools.{never-both-values, and-true-parts}

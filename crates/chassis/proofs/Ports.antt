@@ -9,7 +9,8 @@ use native.Mathlib.Omega.{arith}
 use borrow.Author.Tests.{eqb-true, eq-eqb}
 use Rattle.chassis.specs.declared.Holders.{Holders}
 use Rattle.chassis.specs.declared.Holders.the-variants.{Nobody, Only, Both}
-use Rattle.chassis.specs.Chassis.{Chassis, portNo, withPort, lowestTwo, passesAt, lowestAt}
+use Rattle.ids.specs.Ids.{portNo}
+use Rattle.chassis.specs.Chassis.{Chassis, withPort, lowestTwo, passesAt, lowestAt}
 use Rattle.chassis.specs.Findings.{SomeBelow}
 use Rattle.chassis.specs.Tree.{standsAt, anyBelow}
 use Rattle.chassis.proofs.Bools.{never-both-values, and-true-parts, or-false-parts}

@@ -4,7 +4,8 @@ use mathlib.Core.Path.{_≡_, refl, sym, subst}
 use native.Mathlib.Omega.{arith}
 use borrow.Author.Tests.{ne-eqb}
 use Rattle.chassis.specs.declared.Whereabouts.the-variants.{Root, From}
-use Rattle.chassis.specs.Chassis.{Chassis, portNo}
+use Rattle.ids.specs.Ids.{portNo}
+use Rattle.chassis.specs.Chassis.{Chassis}
 use Rattle.chassis.specs.Tree.{root}
 use Rattle.chassis.specs.Walk.{comeTo}
 use Rattle.chassis.proofs.Steps.{Within}

@@ -20,7 +20,8 @@ use Rattle.chassis.specs.declared.Step.{Step}
 use Rattle.chassis.specs.declared.Step.the-variants.{Stop, Cross}
 use Rattle.chassis.specs.declared.Whereabouts.{Whereabouts}
 use Rattle.chassis.specs.declared.Whereabouts.the-variants.{Root, Into, From, Type0, Type1}
-use Rattle.chassis.specs.Chassis.{Chassis, portNo, isOwn, holds, passesAt, lowestAt}
+use Rattle.ids.specs.Ids.{portNo}
+use Rattle.chassis.specs.Chassis.{Chassis, isOwn, holds, passesAt, lowestAt}
 use Rattle.chassis.specs.Tree.{root, isDevicePort}
 use Rattle.chassis.specs.Walk.{targetOf, decided, decides, downward, byHolders, soleHolder, deviceOr, comeTo, upward, fromBelow, underType0, underType1, next}
 use Rattle.chassis.proofs.Ports.{Says, SoleBelow, lowestTwo-says, passesAt-true}

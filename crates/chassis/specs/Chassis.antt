@@ -3,7 +3,7 @@
 use Prim.Native.Nat.{ℕ, zero, suc, _^_}
 use mathlib.Core.Bool.{Bool, true, false, _&&_, _||_}
 use lib.Dec.{eqb}
-use Rattle.ids.specs.declared.PortNo.{PortNo}
+use Rattle.ids.specs.Ids.{portNo}
 use Rattle.ids.specs.declared.Target.{Target}
 use Rattle.ids.specs.declared.Target.the-variants.{Id, Addr}
 use Rattle.ids.specs.declared.Space.{Space}
@@ -19,9 +19,6 @@ pub record Chassis : Type 0 where
   pub ari : ℕ → Bool
   pub claims : ℕ → Target → Bool
   pub conversion : ℕ → Target → Conversion
-
-abbrev pub portNo : ℕ → PortNo
-portNo p = record { 0 = p }
 
 -- the targets of a space by their numbers, and how many there are
 abbrev pub targetIn : Space → ℕ → Target

@@ -1,21 +1,27 @@
--- 01, "Numbers given back": numbers 11 to 15. "Least target" is over all 65,536 IDs or all 2^64 addresses.
+-- 01, "Numbers given back": numbers 11 to 15, by the rows of the table. "Least target" is over all 65,536 IDs or all 2^64 addresses.
 use Prim.Native.Nat.{ℕ}
 use mathlib.Core.Bool.{Bool, true, false, not, cond, _&&_}
+use mathlib.Core.List.{List, [], _∷_}
 use lib.Dec.{eqb}
-use Rattle.ids.specs.declared.Target.{Target}
-use Rattle.ids.specs.declared.Target.the-variants.{Id, Addr}
+use Rattle.ids.specs.declared.PortNo.{PortNo}
 use Rattle.ids.specs.declared.Space.{Space}
 use Rattle.ids.specs.declared.Space.the-variants.{Ids, Addresses}
-use Rattle.ids.specs.declared.PortNo.{PortNo}
+use Rattle.ids.specs.declared.Target.{Target}
+use Rattle.ids.specs.declared.Target.the-variants.{Id, Addr}
+use Rattle.ids.specs.Ids.{portNo, noPort}
 use Rattle.least.specs.declared.Found.{Found}
 use Rattle.least.specs.declared.Found.the-variants.{At, Nothing}
 use Rattle.least.specs.Least.{firstIn}
 use Rattle.chassis.specs.declared.Conversion.{Conversion}
 use Rattle.chassis.specs.declared.Conversion.the-variants.{NotClaimed, Type0, Type1, Unsupported}
+use Rattle.chassis.specs.declared.Fault.{Fault}
+use Rattle.chassis.specs.declared.Fault.the-variants.{Shared as OfShared, Stray as OfStray}
+use Rattle.chassis.specs.declared.Row.{Row}
+use Rattle.chassis.specs.declared.Row.the-variants.{At as RowAt, Lost as RowLost}
 use Rattle.chassis.specs.declared.Verdict.{Verdict}
 use Rattle.chassis.specs.declared.Verdict.the-variants.{Clear, Shared, Stray, Lost}
-use Rattle.chassis.specs.Chassis.{Chassis, portNo, isOwn, holds, targetIn, spaceSize}
-use Rattle.chassis.specs.Tree.{rootPort, root, standsAt, anyBelow}
+use Rattle.chassis.specs.Chassis.{Chassis, isOwn, holds, targetIn, spaceSize}
+use Rattle.chassis.specs.Tree.{rootPort, standsAt, anyBelow}
 
 -- 11, 12: "held by two ports at one place, or an ID claimed by the port whose own it is"; "a port with itself tried too"
 unfoldable pub clash : Chassis → Target → ℕ → ℕ → Bool
@@ -26,15 +32,9 @@ clash c t p q =
 unfoldable pub clashesWith : Chassis → Target → ℕ → Bool
 clashesWith c t p = anyBelow (clash c t p) (c .tree .count)
 
-unfoldable pub shared : Chassis → Target → Bool
-shared c t = anyBelow (clashesWith c t) (c .tree .count)
-
 -- 13, 14: "held by a port that is no root port, not claimed by its parent"
 unfoldable pub straysAt : Chassis → Target → ℕ → Bool
 straysAt c t p = not (eqb (c .tree .kind p) rootPort) && holds c t p && not (c .claims (c .tree .parent p) t)
-
-unfoldable pub stray : Chassis → Target → Bool
-stray c t = anyBelow (straysAt c t) (c .tree .count)
 
 -- 15: "the own ID of a port of kind 1 or 2 is not both claimed by its parent and Type 0 there"
 abbrev pub isType0 : Conversion → Bool
@@ -49,6 +49,14 @@ ownIdLost c p =
     && not (c .claims (c .tree .parent p) (Id (record { 0 = c .ownId p }))
     && isType0 (c .conversion (c .tree .parent p) (Id (record { 0 = c .ownId p }))))
 
+-- whether a port is at fault at a target, and whether some port is
+abbrev pub atFault : Fault → Chassis → Target → ℕ → Bool
+atFault OfShared c t = clashesWith c t
+atFault OfStray c t = straysAt c t
+
+unfoldable pub faulty : Fault → Chassis → Target → Bool
+faulty fault c t = anyBelow (atFault fault c t) (c .tree .count)
+
 -- the least target of a space with a property
 unfoldable pub testIn : (Target → Bool) → Space → ℕ → Bool
 testIn test space n = test (targetIn space n)
@@ -59,49 +67,43 @@ leastTarget test space = firstIn (testIn test space) 0 (spaceSize space)
 -- the lowest port that passes; 255 where none does
 abbrev pub found : Found → PortNo
 found (At p) = portNo p
-found Nothing = portNo root
+found Nothing = noPort
 
 abbrev pub lowestPort : Chassis → (ℕ → Bool) → PortNo
 lowestPort c test = found (firstIn test 0 (c .tree .count))
 
--- "the pair search stops at the first pair found, by first port and then second, a port with itself tried too"
+-- "The least target comes first, and among ports at it the pair search stops at the first pair found, by first port and then second, a
+-- port with itself tried too"; of one port, the lowest
 abbrev pub firstOfPair : Chassis → Target → PortNo
 firstOfPair c t = lowestPort c (clashesWith c t)
 
-abbrev pub secondOfPair : Chassis → Target → PortNo
-secondOfPair c t = lowestPort c (clash c t (firstOfPair c t .0))
+abbrev pub verdictAt : Chassis → Fault → Target → Verdict
+verdictAt c OfShared t = Shared t (firstOfPair c t) (lowestPort c (clash c t (firstOfPair c t .0)))
+verdictAt c OfStray t = Stray t (lowestPort c (straysAt c t))
 
--- "The least target comes first, and among ports at it" the first pair, or the port
-abbrev pub sharedElse : Chassis → Space → Found → Verdict → Verdict
-sharedElse c space (At n) rest =
-    Shared (targetIn space n) (firstOfPair c (targetIn space n)) (secondOfPair c (targetIn space n))
-sharedElse c space Nothing rest = rest
+-- what a row of the table finds, `Clear` where it finds nothing
+abbrev pub atLeast : Chassis → Fault → Space → Found → Verdict
+atLeast c fault space (At n) = verdictAt c fault (targetIn space n)
+atLeast c fault space Nothing = Clear
 
-abbrev pub strayElse : Chassis → Space → Found → Verdict → Verdict
-strayElse c space (At n) rest = Stray (targetIn space n) (lowestPort c (straysAt c (targetIn space n)))
-strayElse c space Nothing rest = rest
+abbrev pub lostAt : Found → Verdict
+lostAt (At p) = Lost (portNo p)
+lostAt Nothing = Clear
 
-abbrev pub lostElse : Found → Verdict → Verdict
-lostElse (At p) rest = Lost (portNo p)
-lostElse Nothing rest = rest
+unfoldable pub rowOf : Chassis → Row → Verdict
+rowOf c (RowAt fault space) = atLeast c fault space (leastTarget (faulty fault c) space)
+rowOf c RowLost = lostAt (firstIn (ownIdLost c) 0 (c .tree .count))
 
--- numbers 11 to 15: "Lowest number wins, then the lowest port"
+-- numbers 11 to 15: "Lowest number wins"
+abbrev pub orNext : Verdict → Verdict → Verdict
+orNext Clear next = next
+orNext (Shared t p q) next = Shared t p q
+orNext (Stray t p) next = Stray t p
+orNext (Lost p) next = Lost p
+
+abbrev pub firstOf : Chassis → List Row → Verdict
+firstOf c [] = Clear
+firstOf c (row ∷ rows) = orNext (rowOf c row) (firstOf c rows)
+
 unfoldable pub verdictOf : Chassis → Verdict
-verdictOf c =
-    sharedElse c Ids (leastTarget (shared c) Ids)
-    (sharedElse c Addresses (leastTarget (shared c) Addresses)
-    (strayElse c Ids (leastTarget (stray c) Ids)
-    (strayElse c Addresses (leastTarget (stray c) Addresses)
-    (lostElse (firstIn (ownIdLost c) 0 (c .tree .count))
-    Clear))))
-
--- the paper's number of a verdict
-abbrev pub byTarget : Target → ℕ → ℕ → ℕ
-byTarget (Id rid) ofId ofAddress = ofId
-byTarget (Addr a) ofId ofAddress = ofAddress
-
-abbrev pub verdictNumber : Verdict → ℕ
-verdictNumber Clear = 0
-verdictNumber (Shared t p q) = byTarget t 11 12
-verdictNumber (Stray t p) = byTarget t 13 14
-verdictNumber (Lost p) = 15
+verdictOf c = firstOf c (RowAt OfShared Ids ∷ RowAt OfShared Addresses ∷ RowAt OfStray Ids ∷ RowAt OfStray Addresses ∷ RowLost ∷ [])

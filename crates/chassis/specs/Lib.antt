@@ -2,5 +2,6 @@ pub mod Tree
 pub mod Chassis
 pub mod Walk
 pub mod Check
+pub mod Table
 pub mod OneEnd
 pub mod Findings

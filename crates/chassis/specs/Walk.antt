@@ -19,7 +19,8 @@ use Rattle.chassis.specs.declared.Step.{Step}
 use Rattle.chassis.specs.declared.Step.the-variants.{Stop, Cross}
 use Rattle.chassis.specs.declared.Whereabouts.{Whereabouts}
 use Rattle.chassis.specs.declared.Whereabouts.the-variants.{Root, Into, From, Type0, Type1}
-use Rattle.chassis.specs.Chassis.{Chassis, portNo, isOwn, holds, lowestAt}
+use Rattle.ids.specs.Ids.{portNo}
+use Rattle.chassis.specs.Chassis.{Chassis, isOwn, holds, lowestAt}
 use Rattle.chassis.specs.Tree.{root, isDevicePort}
 
 abbrev pub targetOf : Packet → Target

@@ -1,7 +1,15 @@
 // What a packet meets on its way through a chassis, and where it ends. The rules themselves are definitions, in specs/.
 use ids::PortNo;
 use ids::Rid;
+use ids::Space;
 use ids::Target;
+
+// The kinds of ports, by the numbers that a picture has for them.
+pub const ROOT_PORT: u8 = 0;
+
+pub const UPSTREAM: u8 = 1;
+
+pub const DOWNSTREAM: u8 = 2;
 
 // What is sent: a packet routed by its target, or a configuration request for an ID.
 pub enum Packet {
@@ -9,7 +17,8 @@ pub enum Packet {
     Config(Rid),
 }
 
-// The ports of a place that have to do with a target: the two lowest of them, where there are two or more.
+// No port, one or two: of a place, those that have to do with a target, the two lowest where there are more; of an answer,
+// those that it names.
 pub enum Holders {
     Nobody,
     Only(PortNo),
@@ -49,6 +58,18 @@ pub enum Step {
     Cross(PortNo, Whereabouts),
 }
 
+// What the check looks for at a target: 11 and 12, two ports that hold it; 13 and 14, a port that strays.
+pub enum Fault {
+    Shared,
+    Stray,
+}
+
+// The rows of the table that the check looks at: a fault at a target of a space, and 15, an own ID that is lost.
+pub enum Row {
+    At(Fault, Space),
+    Lost,
+}
+
 // What the check finds: numbers 11 and 12 with the least target and the first pair, 13 and 14 with the least target and
 // the port, 15 with the port.
 pub enum Verdict {
@@ -56,4 +77,17 @@ pub enum Verdict {
     Shared(Target, PortNo, PortNo),
     Stray(Target, PortNo),
     Lost(PortNo),
+}
+
+// The least target that a number of the table shows, where it shows one.
+pub enum Shown {
+    NoTarget,
+    Least(Target),
+}
+
+// A number of the table, with the target that it shows and the ports that it names.
+pub struct Finding {
+    pub number: u8,
+    pub target: Shown,
+    pub ports: Holders,
 }

@@ -8,7 +8,8 @@ use Rattle.ids.specs.declared.Target.{Target}
 use Rattle.least.specs.declared.Found.the-variants.{At}
 use Rattle.least.specs.Least.{firstIn}
 use Rattle.least.proofs.Laws.{NoneIn, at-is}
-use Rattle.chassis.specs.Chassis.{Chassis, portNo}
+use Rattle.ids.specs.Ids.{portNo}
+use Rattle.chassis.specs.Chassis.{Chassis}
 use Rattle.chassis.specs.Check.{clash, clashesWith, shared}
 use Rattle.chassis.specs.Findings.{SomeBelow}
 use Rattle.chassis.proofs.Ports.{anyBelow-true, anyBelow-false}

@@ -5,7 +5,7 @@ use native.Mathlib.Omega.{arith}
 use Rattle.ids.specs.declared.PortNo.{PortNo}
 use Rattle.least.specs.declared.Found.{Found}
 use Rattle.least.specs.declared.Found.the-variants.{At, Nothing}
-use Rattle.chassis.specs.Chassis.{portNo}
+use Rattle.ids.specs.Ids.{portNo}
 use Rattle.chassis.specs.Check.{found}
 use Rattle.chassis.specs.Tree.{root}
 use Rattle.picture.specs.declared.Culprit.the-variants.{Port, Nobody}

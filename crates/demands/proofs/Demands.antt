@@ -24,7 +24,8 @@ use Rattle.chassis.proofs.Steps.{left-most}
 use Rattle.chassis.proofs.Verdicts.{verdict-says, shared-exactly}
 use Rattle.chassis.proofs.Walks.{walk-short}
 use Rattle.paths.specs.declared.Path.{Path}
-use Rattle.paths.specs.Paths.{noPort, pathOf}
+use Rattle.ids.specs.Ids.{noPort}
+use Rattle.paths.specs.Paths.{pathOf}
 use Rattle.picture.specs.declared.Header.{Header}
 use Rattle.picture.specs.declared.Reading.{Reading}
 use Rattle.picture.specs.declared.Reading.the-variants.{Read, Refused as NotRead}

@@ -7,12 +7,12 @@ use native.Mathlib.Omega.{arith}
 use borrow.Author.Tests.{lt-leb}
 use Rattle.ids.specs.declared.Target.the-variants.{Id}
 use Rattle.ids.specs.declared.Space.the-variants.{Ids}
-use Rattle.ids.specs.Ids.{busOf}
+use Rattle.ids.specs.Ids.{busOf, portNo}
 use Rattle.least.specs.declared.Found.the-variants.{At}
 use Rattle.least.specs.Least.{firstOf, firstIn}
 use Rattle.lent.specs.Lent.{u16At, u32At}
 use Rattle.chassis.specs.declared.Verdict.the-variants.{Shared}
-use Rattle.chassis.specs.Chassis.{Chassis, portNo, holds}
+use Rattle.chassis.specs.Chassis.{Chassis, holds}
 use Rattle.chassis.specs.Check.{clash, clashesWith, shared, leastTarget, firstOfPair, secondOfPair, verdictOf}
 use Rattle.chassis.specs.Tree.{anyBelow}
 use Rattle.chassis.proofs.LeastTarget.{leastTarget-is}

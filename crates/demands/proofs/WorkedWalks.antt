@@ -6,7 +6,8 @@ use mathlib.Core.Path.{_≡_, refl}
 use Rattle.lent.specs.Lent.{u16At, u32At}
 use Rattle.chassis.specs.declared.End.{End}
 use Rattle.chassis.specs.declared.End.the-variants.{Device, Function, Host, Unsupported, Doubled}
-use Rattle.chassis.specs.Chassis.{portNo, holds, withPort, lowestTwo, passesAt}
+use Rattle.ids.specs.Ids.{portNo}
+use Rattle.chassis.specs.Chassis.{holds, withPort, lowestTwo, passesAt}
 use Rattle.chassis.specs.Tree.{anyBelow, isDevicePort}
 use Rattle.chassis.specs.Walk.{functionNumber, decided, downward, byHolders, soleHolder, deviceOr, comeTo, upward, fromBelow, underType0, underType1, next, Walk, ends, goes}
 use Rattle.registers.specs.Record.{bridgeAt, fpbAt, portAt}

@@ -17,7 +17,7 @@ use Rattle.chassis.specs.Findings.{Clashing, Says}
 use Rattle.chassis.specs.OneEnd.{InRange, OneEnd}
 use Rattle.chassis.specs.Walk.{Walk, comeTo}
 use Rattle.paths.specs.declared.Path.{Path}
-use Rattle.paths.specs.Paths.{noPort}
+use Rattle.ids.specs.Ids.{noPort}
 use Rattle.picture.specs.Reading.{numberOf, reading as picture·reading}
 use Rattle.claims.specs.Claims.{chassisOf}
 use Rattle.judge.specs.declared.CheckAnswer.the-variants.{Judged}

@@ -5,7 +5,7 @@ use Prim.Native.Nat.{ℕ, zero, suc, _+_, _*_, _/_, _%_}
 use mathlib.Core.List.{List, [], _∷_, _++_}
 use Rattle.chassis.specs.declared.End.{End}
 use Rattle.chassis.specs.declared.End.the-variants.{Device, Function, Host, Unsupported, Doubled}
-use Rattle.chassis.specs.Chassis.{portNo}
+use Rattle.ids.specs.Ids.{portNo}
 use Rattle.paths.specs.Paths.{pathOf}
 use Rattle.ids.specs.declared.PortNo.{PortNo}
 use Rattle.judge.specs.declared.Outcome.the-variants.{Ended}

@@ -7,7 +7,7 @@ use Rattle.ids.specs.declared.Target.{Target}
 use Rattle.ids.specs.declared.Target.the-variants.{Id, Addr}
 use Rattle.chassis.specs.declared.Verdict.{Verdict}
 use Rattle.chassis.specs.declared.Verdict.the-variants.{Clear, Shared, Stray, Lost}
-use Rattle.chassis.specs.Chassis.{portNo}
+use Rattle.ids.specs.Ids.{portNo}
 use Rattle.chassis.specs.Check.{verdictNumber}
 use Rattle.answers.specs.declared.Head.{Head}
 use Rattle.answers.specs.Answers.{answerBytes, noPlaces, targetPlaces}

@@ -1,6 +1,6 @@
 -- 01, "Numbers given back": what is said of a refusal before the places.
 use Prim.Native.Nat.{ℕ}
-use Rattle.chassis.specs.Chassis.{portNo}
+use Rattle.ids.specs.Ids.{portNo}
 use Rattle.picture.specs.declared.Refusal.{Refusal}
 use Rattle.answers.specs.declared.Head.{Head}
 

@@ -2,7 +2,7 @@
 ghost use mathlib.Core.Path.{_≡_};
 ghost use Rattle.ids.specs.Ids.{busOf, deviceOf, functionOf, unitOf};
 
-// The number of a port in its picture; 255 is no port, or the root.
+// The number of a port in its picture.
 pub struct PortNo(pub u8);
 
 // A Routing ID: bus, device and Function.
@@ -21,6 +21,14 @@ pub enum Target {
 pub enum Space {
     Ids,
     Addresses,
+}
+
+impl PortNo {
+    // What stands where an answer names no port.
+    pub const NONE: PortNo = PortNo(255);
+
+    // The root as a place; below any other number lies what is below that port.
+    pub const ROOT: PortNo = PortNo(255);
 }
 
 impl Rid {

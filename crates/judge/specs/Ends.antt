@@ -4,7 +4,7 @@ use Prim.Native.Nat.{ℕ}
 use Rattle.ids.specs.declared.PortNo.{PortNo}
 use Rattle.chassis.specs.declared.End.{End}
 use Rattle.chassis.specs.declared.End.the-variants.{Device, Function, Host, Unsupported, Doubled}
-use Rattle.chassis.specs.Chassis.{portNo}
+use Rattle.ids.specs.Ids.{portNo}
 use Rattle.judge.specs.declared.Outcome.{Outcome}
 use Rattle.judge.specs.declared.Outcome.the-variants.{Refused, Ended}
 

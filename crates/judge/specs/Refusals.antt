@@ -2,7 +2,7 @@
 use Prim.Native.Nat.{ℕ}
 use mathlib.Core.Bool.{cond}
 use lib.Dec.{ltb}
-use Rattle.chassis.specs.Chassis.{portNo}
+use Rattle.ids.specs.Ids.{portNo}
 use Rattle.picture.specs.declared.Reading.{Reading}
 use Rattle.picture.specs.declared.Reading.the-variants.{Read, Refused}
 use Rattle.picture.specs.declared.Refusal.{Refusal}

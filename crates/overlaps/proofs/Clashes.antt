@@ -6,7 +6,8 @@ use native.Mathlib.Decide.{ℕ-discrete}
 use lib.Dec.{eqb}
 use borrow.Author.Tests.{eq-eqb, ne-eqb}
 use Rattle.ids.specs.declared.Target.{Target}
-use Rattle.chassis.specs.Chassis.{Chassis, portNo, holds}
+use Rattle.ids.specs.Ids.{portNo}
+use Rattle.chassis.specs.Chassis.{Chassis, holds}
 use Rattle.chassis.specs.Check.{clash, straysAt}
 use Rattle.chassis.specs.Tree.{rootPort}
 use Rattle.overlaps.specs.declared.meetings.Holding.{Holding}

@@ -8,7 +8,8 @@ use lib.ListN.{length, replicate, set, take, drop, length-append}
 use lib.Seq.{set-split, take-at, drop-at}
 use Rattle.ids.specs.declared.PortNo.{PortNo}
 use Rattle.paths.specs.declared.Path.{Path}
-use Rattle.paths.specs.Paths.{noPort, pathOf, extended}
+use Rattle.ids.specs.Ids.{noPort}
+use Rattle.paths.specs.Paths.{pathOf, extended}
 
 -- a store at the first unused place
 set-next : (xs : List PortNo) (n : ℕ) (p : PortNo) → set (xs ++ replicate (suc n) noPort) (length xs) p ≡ xs ++ (p ∷ replicate n noPort)

@@ -3,10 +3,8 @@ use Prim.Native.Nat.{ℕ, _+_, _-_}
 use mathlib.Core.List.{List, _++_}
 use lib.ListN.{length, replicate, set}
 use Rattle.ids.specs.declared.PortNo.{PortNo}
+use Rattle.ids.specs.Ids.{noPort}
 use Rattle.paths.specs.declared.Path.{Path}
-
-abbrev pub noPort : PortNo
-noPort = record { 0 = 255 }
 
 -- the path that names these ports, in this order
 unfoldable pub pathOf : List PortNo → Path

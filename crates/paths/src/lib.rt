@@ -17,7 +17,7 @@ impl Path {
         ensures { λ r. ⌜ r ≡ pathOf [] ⌝ }
     {
         Path {
-            places: [PortNo(255); 32],
+            places: [PortNo::NONE; 32],
             count: 0,
         }
     }

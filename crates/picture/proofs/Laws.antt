@@ -14,7 +14,7 @@ use Rattle.least.specs.declared.Found.{Found}
 use Rattle.least.specs.declared.Found.the-variants.{At, Nothing}
 use Rattle.least.specs.Least.{firstIn, orElse}
 use Rattle.ids.specs.declared.PortNo.{PortNo}
-use Rattle.chassis.specs.Chassis.{portNo}
+use Rattle.ids.specs.Ids.{portNo}
 use Rattle.registers.specs.declared.Port.{Port}
 use Rattle.registers.specs.Record.{portAt}
 use Rattle.trees.specs.Trees.{countOf}

@@ -6,7 +6,7 @@ use lib.ListN.{length}
 use Rattle.least.specs.declared.Found.{Found}
 use Rattle.least.specs.declared.Found.the-variants.{At, Nothing}
 use Rattle.least.specs.Least.{firstIn, orElse}
-use Rattle.chassis.specs.Chassis.{portNo}
+use Rattle.ids.specs.Ids.{portNo}
 use Rattle.chassis.specs.Tree.{treeBroken, chainTooLong}
 use Rattle.registers.specs.Record.{portAt}
 use Rattle.registers.specs.Rules.{settingsWrong, startWrong}
