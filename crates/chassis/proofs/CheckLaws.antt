@@ -1,19 +1,17 @@
--- What the checks of 11 to 15 say: a target is shared or astray, and an own ID lost, exactly if the ports are as those numbers describe.
+-- What the checks of 11 to 14 say of the ports.
 use Prim.Native.Nat.{ℕ, _<_}
-use mathlib.Core.Bool.{Bool, true, false, not, cond, _&&_}
+use mathlib.Core.Bool.{Bool, true, false, cond, _&&_}
 use mathlib.Core.Logic.{_↔_}
 use mathlib.Core.Path.{_≡_, refl}
 use lib.Dec.{eqb}
-use borrow.Author.Tests.{eqb-true, eqb-false, eq-eqb, ne-eqb, not-true}
+use borrow.Author.Tests.{eqb-true, eqb-false, eq-eqb, ne-eqb}
 use Rattle.ids.specs.declared.Target.{Target}
-use Rattle.ids.specs.declared.Target.the-variants.{Id}
-use Rattle.chassis.specs.declared.Conversion.{Conversion}
-use Rattle.chassis.specs.declared.Conversion.the-variants.{NotClaimed, Type0, Type1, Unsupported}
 use Rattle.chassis.specs.Chassis.{Chassis, isOwn, holds}
-use Rattle.chassis.specs.Check.{clash, clashesWith, shared, straysAt, stray, isType0, ownIdLost}
-use Rattle.chassis.specs.Findings.{HeldByTwo, OwnClaimed, Clash, between-two, with-itself, Clashing, Astray, SomeAstray, ownTarget, OwnIdLost}
+use Rattle.chassis.specs.declared.Fault.the-variants.{Shared, Stray}
+use Rattle.chassis.specs.Check.{clash, clashesWith, straysAt, faulty}
+use Rattle.chassis.specs.Findings.{Clash, between-two, with-itself, Clashing}
 use Rattle.chassis.specs.Tree.{rootPort, standsAt}
-use Rattle.chassis.proofs.Bools.{never-both-values, and-true-parts}
+use Rattle.chassis.proofs.Bools.{and-true-parts}
 use Rattle.chassis.proofs.Ports.{anyBelow-true, anyBelow-at}
 
 module _ (c : Chassis) (t : Target) where
@@ -43,8 +41,8 @@ module _ (c : Chassis) (t : Target) where
   pub clash-true : (p q : ℕ) → (clash c t p q ≡ true) ↔ Clash c t p q
   clash-true p q = (clash-told p q, clash-shown p q)
 
-  shared-told : shared c t ≡ true → Clashing c t
-  unfolding shared clashesWith
+  shared-told : faulty Shared c t ≡ true → Clashing c t
+  unfolding faulty clashesWith
   shared-told e =
       let p = anyBelow-true (clashesWith c t) (c .tree .count) .0 e in
       let q = anyBelow-true (clash c t (p .number)) (c .tree .count) .0 (p .passes) in
@@ -56,62 +54,20 @@ module _ (c : Chassis) (t : Target) where
         clashing = clash-told (p .number) (q .number) (q .passes);
       }
 
-  shared-shown : Clashing c t → shared c t ≡ true
-  unfolding shared clashesWith
+  shared-shown : Clashing c t → faulty Shared c t ≡ true
+  unfolding faulty clashesWith
   shared-shown k =
       anyBelow-at (clashesWith c t) (c .tree .count) (k .first) (k .first-below)
       (anyBelow-at (clash c t (k .first)) (c .tree .count) (k .second) (k .second-below)
       (clash-shown (k .first) (k .second) (k .clashing)))
 
   -- a target is shared exactly if two ports at one place hold it, or a port claims its own ID
-  pub shared-true : (shared c t ≡ true) ↔ Clashing c t
+  pub shared-true : (faulty Shared c t ≡ true) ↔ Clashing c t
   shared-true = (shared-told, shared-shown)
 
-  astray-told : (p : ℕ) → straysAt c t p ≡ true → Astray c t p
-  unfolding straysAt
-  astray-told p e =
-      let parts = and-true-parts (not (eqb (c .tree .kind p) rootPort) && holds c t p) (not (c .claims (c .tree .parent p) t)) e in
-      let both = and-true-parts (not (eqb (c .tree .kind p) rootPort)) (holds c t p) (parts .0) in
-      record { no-root-port = eqb-false _ _ (not-true _ (both .0)); held = both .1; unclaimed = not-true _ (parts .1) }
-
-  astray-shown : (p : ℕ) → Astray c t p → straysAt c t p ≡ true
-  unfolding straysAt
-  astray-shown p a = simp (ne-eqb _ _ (a .no-root-port), a .held, a .unclaimed)
-
-  -- a port is found astray exactly if it is no root port, holds the target, and its parent does not claim it
-  pub straysAt-true : (p : ℕ) → (straysAt c t p ≡ true) ↔ Astray c t p
-  straysAt-true p = (astray-told p, astray-shown p)
-
-  -- a target is astray exactly if some port is so
-  pub stray-true : (stray c t ≡ true) ↔ SomeAstray c t
-  unfolding stray
-  stray-true = (
-    λ e. let s = anyBelow-true (straysAt c t) (c .tree .count) .0 e in
-        record { port = s .number; below = s .below; astray = astray-told (s .number) (s .passes) },
-    λ a. anyBelow-at (straysAt c t) (c .tree .count) (a .port) (a .below) (astray-shown (a .port) (a .astray)),
-  )
-
-not-both-told : (claimed : Bool) (x : Conversion) → not (claimed && isType0 x) ≡ true → claimed ≡ true → x ≡ Type0 → ⊥
-not-both-told claimed x e is-claimed is-type0 = never-both-values (claimed && isType0 x) (rw (is-claimed, is-type0)) (not-true _ e)
-
-not-both-shown : (claimed : Bool) (x : Conversion) → (claimed ≡ true → x ≡ Type0 → ⊥) → not (claimed && isType0 x) ≡ true
-not-both-shown false x not-both = refl
-not-both-shown true NotClaimed not-both = refl
-not-both-shown true Type0 not-both = absurd (not-both refl refl)
-not-both-shown true Type1 not-both = refl
-not-both-shown true Unsupported not-both = refl
-
-module _ (c : Chassis) (p : ℕ) where
-  own-id-lost-told : ownIdLost c p ≡ true → OwnIdLost c p
-  unfolding ownIdLost
-  own-id-lost-told e =
-      let parts = and-true-parts (not (eqb (c .tree .kind p) rootPort)) _ e in
-      record { no-root-port = eqb-false _ _ (not-true _ (parts .0)); not-both = not-both-told _ _ (parts .1) }
-
-  own-id-lost-shown : OwnIdLost c p → ownIdLost c p ≡ true
-  unfolding ownIdLost
-  own-id-lost-shown lost = simp (ne-eqb _ _ (lost .no-root-port), not-both-shown _ _ (lost .not-both))
-
-  -- an own ID is found lost exactly if it is
-  pub ownIdLost-true : (ownIdLost c p ≡ true) ↔ OwnIdLost c p
-  ownIdLost-true = (own-id-lost-told, own-id-lost-shown)
+  -- a target strays where a port that is no root port holds it and its parent does not claim it
+  pub stray-shown : (p : ℕ) → p < c .tree .count → (c .tree .kind p ≡ rootPort → ⊥) → holds c t p ≡ true
+      → c .claims (c .tree .parent p) t ≡ false → faulty Stray c t ≡ true
+  unfolding faulty straysAt
+  stray-shown p l other held unclaimed =
+      anyBelow-at (straysAt c t) (c .tree .count) p l (simp (ne-eqb _ _ other, held, unclaimed))

@@ -9,16 +9,17 @@ use Rattle.ids.specs.declared.Target.{Target}
 use Rattle.chassis.specs.declared.Holders.the-variants.{Only, Both}
 use Rattle.ids.specs.Ids.{portNo}
 use Rattle.chassis.specs.Chassis.{Chassis, isOwn, holds, passesAt, lowestAt}
-use Rattle.chassis.specs.Check.{shared, stray}
+use Rattle.chassis.specs.declared.Fault.the-variants.{Shared, Stray}
+use Rattle.chassis.specs.Check.{faulty}
 use Rattle.chassis.specs.Tree.{rootPort}
 use Rattle.chassis.proofs.Bools.{never-both-values}
 use Rattle.chassis.proofs.Ports.{passesAt-true, lowestAt-is}
 use Rattle.chassis.specs.Findings.{Clash, between-two, with-itself}
-use Rattle.chassis.proofs.CheckLaws.{shared-true, stray-true}
+use Rattle.chassis.proofs.CheckLaws.{shared-true, stray-shown}
 
 pub record Clean (c : Chassis) (t : Target) : Type 0 where
-  pub unshared : shared c t ≡ false
-  pub unstrayed : stray c t ≡ false
+  pub unshared : faulty Shared c t ≡ false
+  pub unstrayed : faulty Stray c t ≡ false
 
 pub claimed-held : (c : Chassis) (t : Target) (p : ℕ) → c .claims p t ≡ true → holds c t p ≡ true
 unfolding holds
@@ -27,7 +28,7 @@ claimed-held c t p e = rw (e, or-true)
 module _ (c : Chassis) (t : Target) (clean : Clean c t) where
   no-clash : (p q : ℕ) → p < c .tree .count → q < c .tree .count → Clash c t p q → ⊥
   no-clash p q l m k =
-      never-both-values (shared c t)
+      never-both-values (faulty Shared c t)
       (shared-true c t .1 (record { first = p; second = q; first-below = l; second-below = m; clashing = k }))
       (clean .unshared)
 
@@ -78,6 +79,4 @@ module _ (c : Chassis) (t : Target) (clean : Clean c t) where
       go : (b : Bool) → c .claims (c .tree .parent p) t ≡ b → c .claims (c .tree .parent p) t ≡ true
       go true e = e
       go false e =
-          never-both-values (stray c t)
-          (stray-true c t .1 (record { port = p; below = l; astray = record { no-root-port = k; held = h; unclaimed = e } }))
-          (clean .unstrayed)
+          never-both-values (faulty Stray c t) (stray-shown c t p l k h e) (clean .unstrayed)

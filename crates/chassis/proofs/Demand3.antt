@@ -1,4 +1,4 @@
--- Demand 3: in a chassis where the check finds nothing, from the host and from every device port a packet comes to the same end, in
+-- Demand 3: where a target is neither shared nor astray, from the host and from every device port a packet comes to the same end, in
 -- at most 32 crossings, and no place on the way has two holders; except that a device port that itself claims the target refuses
 -- its own device.
 use Prim.Native.Nat.{ℕ, _≤_}
@@ -18,8 +18,7 @@ use Rattle.chassis.specs.declared.Whereabouts.the-variants.{Root, Into, 
 use Rattle.chassis.specs.Chassis.{Chassis, holds, lowestAt}
 use Rattle.chassis.specs.Tree.{root, isDevicePort}
 use Rattle.chassis.specs.Walk.{Walk}
-use Rattle.chassis.specs.OneEnd.{InRange, NoTwoHolders, Comes, OneEnd, placeOf}
-use Rattle.chassis.proofs.Sound.{Sound}
+use Rattle.chassis.specs.OneEnd.{NoTwoHolders, Comes, OneEnd, placeOf}
 use Rattle.chassis.proofs.Tree.{Sane}
 use Rattle.chassis.proofs.Steps.{left-most, Within}
 use Rattle.chassis.proofs.Walks.{walk-one, walk-exists, walk-short}
@@ -57,7 +56,3 @@ module _ (c : Chassis) (t : Target) (sane : Sane (c .tree)) (clean : Clean c t) 
         from-device = from-device-too (host .end) (host .path) (host .walk);
         own-device = λ d device claimed. (own-device-refused c t d device claimed, no-two (From d));
       }
-
--- where the check finds nothing, every packet for a target that there is comes to one end
-pub one-end : (c : Chassis) → Sound c → (t : Target) → InRange t → OneEnd c t
-one-end c sound t range = clean-one-end c t (sound .sane) (sound .clean t range)

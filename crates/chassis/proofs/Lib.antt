@@ -8,7 +8,6 @@ pub mod LeastTarget
 pub mod Clean
 pub mod Starts
 pub mod Ways
-pub mod Sound
 pub mod Homeward
 pub mod Demand3
 pub mod Verdicts

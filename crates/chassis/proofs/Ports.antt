@@ -11,9 +11,14 @@ use Rattle.chassis.specs.declared.Holders.{Holders}
 use Rattle.chassis.specs.declared.Holders.the-variants.{Nobody, Only, Both}
 use Rattle.ids.specs.Ids.{portNo}
 use Rattle.chassis.specs.Chassis.{Chassis, withPort, lowestTwo, passesAt, lowestAt}
-use Rattle.chassis.specs.Findings.{SomeBelow}
 use Rattle.chassis.specs.Tree.{standsAt, anyBelow}
 use Rattle.chassis.proofs.Bools.{never-both-values, and-true-parts, or-false-parts}
+
+-- a number below n passes
+pub record SomeBelow (test : ℕ → Bool) (n : ℕ) : Type 0 where
+  pub number : ℕ
+  pub below : number < n
+  pub passes : test number ≡ true
 
 -- no number below n passes
 abbrev pub NoneBelow : (ℕ → Bool) → ℕ → Type 0

@@ -1,28 +1,32 @@
--- What each verdict of the check says, and when it is given: 11 to 15, each exactly if its row of the table applies and none before
--- it does, with the least target, the first pair and the lowest port.
+-- What each verdict of the check says: its row of the table applies and none before it does, with the least target, the first pair and
+-- the lowest port. No other verdict says so of the same chassis, so each is given exactly if it is true.
 use Prim.Native.Nat.{ℕ, _<_, _^_, zero-le}
 use mathlib.Core.Bool.{Bool, true, false}
 use mathlib.Core.Logic.{_↔_}
-use mathlib.Core.Path.{_≡_, refl}
+use mathlib.Core.Path.{_≡_, refl, ap, subst}
+use native.Mathlib.Decide.{decLt}
+use native.Mathlib.Omega.{arith}
 use Rattle.ids.specs.declared.PortNo.{PortNo}
-use Rattle.ids.specs.declared.Space.{Space}
 use Rattle.ids.specs.declared.Space.the-variants.{Ids, Addresses}
 use Rattle.ids.specs.declared.Target.{Target}
 use Rattle.ids.specs.declared.Target.the-variants.{Id, Addr}
+use Rattle.ids.specs.Ids.{portNo}
 use Rattle.least.specs.declared.Found.{Found}
 use Rattle.least.specs.declared.Found.the-variants.{At, Nothing}
 use Rattle.least.specs.Least.{firstIn}
-use Rattle.least.proofs.Laws.{LeastAt, Least, of-range}
+use Rattle.least.proofs.Laws.{LeastAt as FirstAt, Least, of-range}
+use Rattle.chassis.specs.declared.Fault.{Fault}
+use Rattle.chassis.specs.declared.Fault.the-variants.{Shared, Stray}
 use Rattle.chassis.specs.declared.Verdict.{Verdict}
-use Rattle.chassis.specs.declared.Verdict.the-variants.{Clear, Shared, Stray, Lost}
+use Rattle.chassis.specs.declared.Verdict.the-variants.{Clear, Shared as Found·Shared, Stray as Found·Stray, Lost}
 use Rattle.chassis.specs.Chassis.{Chassis, targetIn}
-use Rattle.chassis.specs.Check.{clash, clashesWith, shared, straysAt, stray, ownIdLost, leastTarget, found, lowestPort, firstOfPair, secondOfPair, sharedElse, strayElse, lostElse, verdictOf}
-use Rattle.chassis.specs.Findings.{SomeBelow, Lowest, Earlier, LeastWith, NoneWith, SomeWith, IsShared, IsStray, IsLost, SaysClear, SaysShared, SaysStray, SaysLost, Says}
+use Rattle.chassis.specs.Check.{clash, clashesWith, ownIdLost, atFault, faulty, leastTarget, found, lowestPort, firstOfPair, verdictAt, atLeast, lostAt, rowOf, orNext, verdictOf}
+use Rattle.chassis.specs.Findings.{Lowest, Earlier, LeastAt, NoneWith, Says}
+use Rattle.chassis.specs.OneEnd.{InRange}
 use Rattle.chassis.specs.Tree.{anyBelow}
 use Rattle.chassis.proofs.Bools.{never-both-values}
 use Rattle.chassis.proofs.LeastTarget.{leastTarget-is}
 use Rattle.chassis.proofs.Ports.{anyBelow-true}
-use Rattle.chassis.proofs.Sound.{none-found}
 
 -- where some port passes, the lowest does
 lowest-found : (c : Chassis) (test : ℕ → Bool) → anyBelow test (c .tree .count) ≡ true → Lowest test (c .tree .count) (lowestPort c test)
@@ -34,122 +38,123 @@ lowest-found c test some = go (firstIn test 0 (c .tree .count)) (of-range test 0
         let one = anyBelow-true test (c .tree .count) .0 some in
         never-both-values _ (one .passes) (none .none (one .number) zero-le (one .below))
 
--- the least of a space is the least of all where the space is that of IDs, or no ID passes
-least-id : (test : Target → Bool) (n : ℕ) → leastTarget test Ids ≡ At n → LeastWith test (targetIn Ids n)
-least-id test n e = record { in-range = least .below; passes = least .holds; first = first }
-  where
-    least : LeastAt (λ (m : ℕ). test (targetIn Ids m)) 0 (2 ^ 16) n
-    least = leastTarget-is test Ids (At n) .0 e
+module _ (c : Chassis) (fault : Fault) where
+  at-fault : (t : Target) → faulty fault c t ≡ true → Lowest (atFault fault c t) (c .tree .count) (lowestPort c (atFault fault c t))
+  unfolding faulty
+  at-fault t some = lowest-found c (atFault fault c t) some
 
-    first : (u : Target) → Earlier u (targetIn Ids n) → test u ≡ false
-    first (Id m) l = least .first .none (m .0) zero-le l
-    first (Addr a) none = absurd none
+  -- the least of a space is the least of all where the space is that of IDs, or no ID is faulty
+  least-id : (n : ℕ) → leastTarget (faulty fault c) Ids ≡ At n
+      → LeastAt fault c (targetIn Ids n) (lowestPort c (atFault fault c (targetIn Ids n)))
+  least-id n e = record { in-range = least .below; passes = least .holds; first = first; port = at-fault (targetIn Ids n) (least .holds) }
+    where
+      least : FirstAt (λ (m : ℕ). faulty fault c (targetIn Ids m)) 0 (2 ^ 16) n
+      least = leastTarget-is (faulty fault c) Ids (At n) .0 e
 
-least-address : (test : Target → Bool) (n : ℕ) → leastTarget test Ids ≡ Nothing → leastTarget test Addresses ≡ At n
-    → LeastWith test (targetIn Addresses n)
-least-address test n none e = record { in-range = least .below; passes = least .holds; first = first }
-  where
-    least : LeastAt (λ (m : ℕ). test (targetIn Addresses m)) 0 (2 ^ 64) n
-    least = leastTarget-is test Addresses (At n) .0 e
+      first : (u : Target) → Earlier u (targetIn Ids n) → faulty fault c u ≡ false
+      first (Id m) l = least .first .none (m .0) zero-le l
+      first (Addr a) none = absurd none
 
-    first : (u : Target) → Earlier u (targetIn Addresses n) → test u ≡ false
-    first (Id m) l = leastTarget-is test Ids Nothing .0 none .none (m .0) zero-le l
-    first (Addr a) l = least .first .none a zero-le l
+  least-address : (n : ℕ) → leastTarget (faulty fault c) Ids ≡ Nothing → leastTarget (faulty fault c) Addresses ≡ At n
+      → LeastAt fault c (targetIn Addresses n) (lowestPort c (atFault fault c (targetIn Addresses n)))
+  least-address n none e =
+      record { in-range = least .below; passes = least .holds; first = first; port = at-fault (targetIn Addresses n) (least .holds) }
+    where
+      least : FirstAt (λ (m : ℕ). faulty fault c (targetIn Addresses m)) 0 (2 ^ 64) n
+      least = leastTarget-is (faulty fault c) Addresses (At n) .0 e
 
-none-with : (test : Target → Bool) → leastTarget test Ids ≡ Nothing → leastTarget test Addresses ≡ Nothing → NoneWith test
-none-with test no-id no-address t l = none-found test spaces t l
-  where
-    spaces : (space : Space) → leastTarget test space ≡ Nothing
-    spaces Ids = no-id
-    spaces Addresses = no-address
+      first : (u : Target) → Earlier u (targetIn Addresses n) → faulty fault c u ≡ false
+      first (Id m) l = leastTarget-is (faulty fault c) Ids Nothing .0 none .none (m .0) zero-le l
+      first (Addr a) l = least .first .none a zero-le l
+
+  none-with : leastTarget (faulty fault c) Ids ≡ Nothing → leastTarget (faulty fault c) Addresses ≡ Nothing → NoneWith fault c
+  none-with no-id no-address (Id rid) l = leastTarget-is (faulty fault c) Ids Nothing .0 no-id .none (rid .0) zero-le l
+  none-with no-id no-address (Addr a) l = leastTarget-is (faulty fault c) Addresses Nothing .0 no-address .none a zero-le l
 
 module _ (c : Chassis) where
-  shared-at : (t : Target) → LeastWith (shared c) t → SaysShared c t (firstOfPair c t) (secondOfPair c t)
-  unfolding shared clashesWith
-  shared-at t least =
-      let first = lowest-found c (clashesWith c t) (least .passes) in
-      record { least = least; first = first; second = lowest-found c (clash c t (firstOfPair c t .0)) (first .passes) }
+  shared-at : (t : Target) → LeastAt Shared c t (firstOfPair c t) → Says c (verdictAt c Shared t)
+  unfolding clashesWith
+  shared-at t least = (least, lowest-found c (clash c t (firstOfPair c t .0)) (least .port .passes))
 
-  stray-at : (t : Target) → NoneWith (shared c) → LeastWith (stray c) t → SaysStray c t (lowestPort c (straysAt c t))
-  unfolding stray
-  stray-at t unshared least = record { unshared = unshared; least = least; port = lowest-found c (straysAt c t) (least .passes) }
+  neither : NoneWith Shared c → NoneWith Stray c → (fault : Fault) → NoneWith fault c
+  neither unshared unstrayed Shared = unshared
+  neither unshared unstrayed Stray = unstrayed
 
-  lost-at : (f : Found) → NoneWith (shared c) → NoneWith (stray c) → Least (ownIdLost c) 0 (c .tree .count) f → Says c (lostElse f Clear)
-  lost-at (At p) unshared unstrayed a =
-      record {
-        unshared = unshared;
-        unstrayed = unstrayed;
-        port = record { below = a .below; passes = a .holds; first = λ q l. a .first .none q zero-le l };
-      }
-  lost-at Nothing unshared unstrayed none =
-      record { unshared = unshared; unstrayed = unstrayed; kept = λ p l. none .none p zero-le l }
+  lost-at : (f : Found) → ((fault : Fault) → NoneWith fault c) → Least (ownIdLost c) 0 (c .tree .count) f → Says c (orNext (lostAt f) Clear)
+  lost-at (At p) none a = (none, record { below = a .below; passes = a .holds; first = λ q l. a .first .none q zero-le l })
+  lost-at Nothing none kept = (none, λ p l. kept .none p zero-le l)
 
   -- the verdict says of the chassis what its row of the table says
   pub verdict-says : Says c (verdictOf c)
-  unfolding verdictOf
+  unfolding verdictOf rowOf
   verdict-says =
-      go (leastTarget (shared c) Ids) (leastTarget (shared c) Addresses) (leastTarget (stray c) Ids) (leastTarget (stray c) Addresses)
-      refl refl refl refl
+      go (leastTarget (faulty Shared c) Ids) (leastTarget (faulty Shared c) Addresses) (leastTarget (faulty Stray c) Ids)
+      (leastTarget (faulty Stray c) Addresses) refl refl refl refl
     where
-      go : (a b d e : Found) → leastTarget (shared c) Ids ≡ a → leastTarget (shared c) Addresses ≡ b
-          → leastTarget (stray c) Ids ≡ d → leastTarget (stray c) Addresses ≡ e
+      go : (a b d e : Found) → leastTarget (faulty Shared c) Ids ≡ a → leastTarget (faulty Shared c) Addresses ≡ b
+          → leastTarget (faulty Stray c) Ids ≡ d → leastTarget (faulty Stray c) Addresses ≡ e
           → Says c
-          (sharedElse c Ids a
-          (sharedElse c Addresses b
-          (strayElse c Ids d (strayElse c Addresses e (lostElse (firstIn (ownIdLost c) 0 (c .tree .count)) Clear)))))
-      go (At n) b d e ea eb ed ee = shared-at (targetIn Ids n) (least-id (shared c) n ea)
-      go Nothing (At n) d e ea eb ed ee = shared-at (targetIn Addresses n) (least-address (shared c) n ea eb)
-      go Nothing Nothing (At n) e ea eb ed ee =
-          stray-at (targetIn Ids n) (none-with (shared c) ea eb) (least-id (stray c) n ed)
-      go Nothing Nothing Nothing (At n) ea eb ed ee =
-          stray-at (targetIn Addresses n) (none-with (shared c) ea eb) (least-address (stray c) n ed ee)
+          (orNext (atLeast c Shared Ids a)
+          (orNext (atLeast c Shared Addresses b)
+          (orNext (atLeast c Stray Ids d)
+          (orNext (atLeast c Stray Addresses e) (orNext (lostAt (firstIn (ownIdLost c) 0 (c .tree .count))) Clear)))))
+      go (At n) b d e ea eb ed ee = shared-at (targetIn Ids n) (least-id c Shared n ea)
+      go Nothing (At n) d e ea eb ed ee = shared-at (targetIn Addresses n) (least-address c Shared n ea eb)
+      go Nothing Nothing (At n) e ea eb ed ee = (none-with c Shared ea eb, least-id c Stray n ed)
+      go Nothing Nothing Nothing (At n) ea eb ed ee = (none-with c Shared ea eb, least-address c Stray n ed ee)
       go Nothing Nothing Nothing Nothing ea eb ed ee =
-          lost-at (firstIn (ownIdLost c) 0 (c .tree .count)) (none-with (shared c) ea eb) (none-with (stray c) ed ee) (of-range (ownIdLost c) 0 (c .tree .count))
+          lost-at (firstIn (ownIdLost c) 0 (c .tree .count)) (neither (none-with c Shared ea eb) (none-with c Stray ed ee))
+          (of-range (ownIdLost c) 0 (c .tree .count))
 
-  -- 11 and 12 are given exactly if some ID or address is shared, 13 and 14 exactly if none is and some is astray
-  pub shared-exactly : (IsShared (verdictOf c)) ↔ SomeWith (shared c)
-  shared-exactly = (shows (verdictOf c) verdict-says, λ some. given some (verdictOf c) verdict-says)
-    where
-      shows : (v : Verdict) → Says c v → IsShared v → SomeWith (shared c)
-      shows (Shared t p q) says is = record { target = t; in-range = says .least .in-range; passes = says .least .passes }
-      shows Clear says is = absurd is
-      shows (Stray t p) says is = absurd is
-      shows (Lost p) says is = absurd is
+lowest-one : {test : ℕ → Bool} {n : ℕ} {p q : PortNo} → Lowest test n p → Lowest test n q → p ≡ q
+lowest-one {p = p} {q} x y = ap portNo (go (decLt (p .0) (q .0)) (decLt (q .0) (p .0)))
+  where
+    go : Dec (p .0 < q .0) → Dec (q .0 < p .0) → p .0 ≡ q .0
+    go (yes l) d = never-both-values _ (x .passes) (y .first (p .0) l)
+    go (no l) (yes k) = never-both-values _ (y .passes) (x .first (q .0) k)
+    go (no l) (no k) = omega arith
 
-      given : SomeWith (shared c) → (v : Verdict) → Says c v → IsShared v
-      given some (Shared t p q) says = tt
-      given some Clear says = never-both-values _ (some .passes) (says .unshared (some .target) (some .in-range))
-      given some (Stray t p) says = never-both-values _ (some .passes) (says .unshared (some .target) (some .in-range))
-      given some (Lost p) says = never-both-values _ (some .passes) (says .unshared (some .target) (some .in-range))
+-- two targets of which neither comes before the other are one
+in-order : (t u : Target) → InRange t → InRange u → (Earlier t u → ⊥) → (Earlier u t → ⊥) → t ≡ u
+in-order (Id m) (Id n) l k a b = ap (λ (i : ℕ). Id (record { 0 = i })) (omega arith)
+in-order (Id m) (Addr n) l k a b = absurd (a l)
+in-order (Addr m) (Id n) l k a b = absurd (b k)
+in-order (Addr m) (Addr n) l k a b = ap Addr (omega arith)
 
-  pub stray-exactly : (IsStray (verdictOf c)) ↔ (NoneWith (shared c) × SomeWith (stray c))
-  stray-exactly = (shows (verdictOf c) verdict-says, λ some. given (some .0) (some .1) (verdictOf c) verdict-says)
-    where
-      shows : (v : Verdict) → Says c v → IsStray v → NoneWith (shared c) × SomeWith (stray c)
-      shows (Stray t p) says is = (says .unshared, record { target = t; in-range = says .least .in-range; passes = says .least .passes })
-      shows Clear says is = absurd is
-      shows (Shared t p q) says is = absurd is
-      shows (Lost p) says is = absurd is
+module _ (c : Chassis) where
+  least-one : {fault : Fault} {t u : Target} {p q : PortNo} → LeastAt fault c t p → LeastAt fault c u q → (t ≡ u) × (p ≡ q)
+  least-one {t = t} {u} {q = q} x y =
+      let same : t ≡ u =
+      in-order t u (x .in-range) (y .in-range) (λ l. never-both-values _ (x .passes) (y .first t l)) (λ l. never-both-values _ (y .passes) (x .first u l)) in
+      (same, lowest-one (x .port) (rw same (y .port)))
 
-      given : NoneWith (shared c) → SomeWith (stray c) → (v : Verdict) → Says c v → IsStray v
-      given none some (Stray t p) says = tt
-      given none some (Shared t p q) says = never-both-values _ (says .least .passes) (none t (says .least .in-range))
-      given none some Clear says = never-both-values _ (some .passes) (says .unstrayed (some .target) (some .in-range))
-      given none some (Lost p) says = never-both-values _ (some .passes) (says .unstrayed (some .target) (some .in-range))
+  not-least : {A : Type 0} {fault : Fault} {t : Target} {p : PortNo} → LeastAt fault c t p → NoneWith fault c → A
+  not-least {t = t} x none = never-both-values _ (x .passes) (none t (x .in-range))
 
-  -- and 15 exactly if neither is and some own ID is lost
-  pub lost-exactly : (IsLost (verdictOf c)) ↔ (NoneWith (shared c) × NoneWith (stray c) × SomeBelow (ownIdLost c) (c .tree .count))
-  lost-exactly = (shows (verdictOf c) verdict-says, λ some. given (some .0) (some .1) (some .2) (verdictOf c) verdict-says)
-    where
-      shows : (v : Verdict) → Says c v → IsLost v → NoneWith (shared c) × NoneWith (stray c) × SomeBelow (ownIdLost c) (c .tree .count)
-      shows (Lost p) says is =
-          (says .unshared, says .unstrayed, record { number = p .0; below = says .port .below; passes = says .port .passes })
-      shows Clear says is = absurd is
-      shows (Shared t p q) says is = absurd is
-      shows (Stray t p) says is = absurd is
+  not-lowest : {A : Type 0} {p : PortNo} → Lowest (ownIdLost c) (c .tree .count) p → ((q : ℕ) → q < c .tree .count → ownIdLost c q ≡ false) → A
+  not-lowest {p = p} x kept = never-both-values _ (x .passes) (kept (p .0) (x .below))
 
-      given : NoneWith (shared c) → NoneWith (stray c) → SomeBelow (ownIdLost c) (c .tree .count) → (v : Verdict) → Says c v → IsLost v
-      given unshared unstrayed some (Lost p) says = tt
-      given unshared unstrayed some (Shared t p q) says = never-both-values _ (says .least .passes) (unshared t (says .least .in-range))
-      given unshared unstrayed some (Stray t p) says = never-both-values _ (says .least .passes) (unstrayed t (says .least .in-range))
-      given unshared unstrayed some Clear says = never-both-values _ (some .passes) (says .kept (some .number) (some .below))
+  says-one : (v w : Verdict) → Says c v → Says c w → v ≡ w
+  says-one (Found·Shared t p q) (Found·Shared u r s) x y =
+      let same = least-one (x .0) (y .0) in
+      let second : q ≡ s = lowest-one (x .1) (rw (same .0, same .1) (y .1)) in
+      cc (same .0, same .1)
+  says-one (Found·Shared t p q) (Found·Stray u r) x y = not-least (x .0) (y .0)
+  says-one (Found·Shared t p q) (Lost r) x y = not-least (x .0) (y .0 Shared)
+  says-one (Found·Shared t p q) Clear x y = not-least (x .0) (y .0 Shared)
+  says-one (Found·Stray t p) (Found·Shared u r s) x y = not-least (y .0) (x .0)
+  says-one (Found·Stray t p) (Found·Stray u r) x y = let same = least-one (x .1) (y .1) in cc (same .0, same .1)
+  says-one (Found·Stray t p) (Lost r) x y = not-least (x .1) (y .0 Stray)
+  says-one (Found·Stray t p) Clear x y = not-least (x .1) (y .0 Stray)
+  says-one (Lost p) (Found·Shared u r s) x y = not-least (y .0) (x .0 Shared)
+  says-one (Lost p) (Found·Stray u r) x y = not-least (y .1) (x .0 Stray)
+  says-one (Lost p) (Lost r) x y = ap Lost (lowest-one (x .1) (y .1))
+  says-one (Lost p) Clear x y = not-lowest (x .1) (y .1)
+  says-one Clear (Found·Shared u r s) x y = not-least (y .0) (x .0 Shared)
+  says-one Clear (Found·Stray u r) x y = not-least (y .1) (x .0 Stray)
+  says-one Clear (Lost r) x y = not-lowest (y .1) (x .1)
+  says-one Clear Clear x y = refl
+
+  -- each verdict is given exactly if what it says is so
+  pub verdict-exactly : (v : Verdict) → (verdictOf c ≡ v) ↔ Says c v
+  verdict-exactly v = (λ e. subst (Says c) e (verdict-says c), λ says. says-one (verdictOf c) v (verdict-says c) says)

@@ -1,4 +1,7 @@
 // What a packet meets on its way through a chassis, and where it ends. The rules themselves are definitions, in specs/.
+mod findings;
+
+pub use findings::finding_of;
 use ids::PortNo;
 use ids::Rid;
 use ids::Space;

@@ -2,6 +2,7 @@
 use crate::claims_id;
 use crate::decoders::bus_claims;
 use chassis::Conversion;
+use chassis::UPSTREAM;
 use ids::PortNo;
 use ids::Rid;
 use ids::Target;
@@ -42,7 +43,7 @@ pub fn in_secondary_range(p: Port, rid: Rid) -> bool
     let f = p.fpb;
     let start = secondary_start(f);
     let unit = rid.unit();
-    if p.kind == 1 {
+    if p.kind == UPSTREAM {
         return (start.0 <= unit.0) & (unit.0 < start.0 + secondary_units(f));
     }
     if with_ari(p) {
@@ -57,7 +58,7 @@ pub fn converted_by_bus(p: Port, rid: Rid) -> Conversion
 {
     let b = p.bridge;
     if bus_claims(b, rid) & (rid.bus() == b.secondary) {
-        if (p.kind == 1) | with_ari(p) | (rid.device() == 0) {
+        if (p.kind == UPSTREAM) | with_ari(p) | (rid.device() == 0) {
             return Conversion::Type0;
         }
         return Conversion::Unsupported;

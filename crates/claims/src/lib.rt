@@ -19,6 +19,7 @@ use ids::Rid;
 use ids::Target;
 use picture::vector;
 use registers::Mechanism;
+use registers::own_id_at;
 use registers::port_at;
 ghost use mathlib.Core.Path.{_≡_};
 ghost use Rattle.chassis.specs.Chassis.{isOwn, holds};
@@ -67,19 +68,12 @@ pub fn claims(s: &[u8], p: PortNo, t: Target) -> bool
     }
 }
 
-// The ID of port p itself.
-pub fn own_id(s: &[u8], p: PortNo) -> Rid
-    ensures { λ r. ⌜ r .0 ≡ chassisOf (now (s .entry)) .ownId (p .0) ⌝ }
-{
-    Rid(lent::u16_at(s, 16 + 56 * (p.0 as usize) + 2))
-}
-
 // Whether the target is the ID of port p itself.
 pub fn is_own(s: &[u8], p: PortNo, t: Target) -> bool
     ensures { λ r. ⌜ r ≡ isOwn (chassisOf (now (s .entry))) t (p .0) ⌝ }
 {
     match t {
-        Target::Id(rid) => own_id(s, p).0 == rid.0,
+        Target::Id(rid) => own_id_at(s, p).0 == rid.0,
         Target::Addr(_) => false,
     }
 }

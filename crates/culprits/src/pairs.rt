@@ -4,7 +4,7 @@ use claims::holds;
 use claims::is_own;
 use ids::PortNo;
 use ids::Target;
-use trees::parent_at;
+use registers::parent_at;
 ghost use mathlib.Core.Bool.{true};
 ghost use mathlib.Core.Path.{_≡_};
 ghost use Rattle.chassis.specs.Check.{clash, shared};

@@ -1,14 +1,15 @@
 // Numbers 13 to 15: the lowest port that strays at a target, or whose own ID is lost.
 use chassis::Conversion;
+use chassis::ROOT_PORT;
 use claims::claims;
 use claims::conversion;
 use claims::holds;
-use claims::own_id;
 use ids::PortNo;
 use ids::Target;
 use picture::Culprit;
-use trees::kind_at;
-use trees::parent_at;
+use registers::kind_at;
+use registers::own_id_at;
+use registers::parent_at;
 ghost use mathlib.Core.Path.{_≡_};
 ghost use Rattle.least.specs.Least.{firstIn};
 ghost use Rattle.chassis.specs.Check.{straysAt, isType0, ownIdLost, lowestPort};
@@ -27,7 +28,7 @@ pub enum Fault {
 fn strays_at(s: &[u8], t: Target, p: PortNo) -> bool
     ensures { λ r. ⌜ r ≡ straysAt (chassisOf (now (s .entry))) t (p .0) ⌝ }
 {
-    !(kind_at(s, p) == 0) & holds(s, p, t) & !claims(s, parent_at(s, p), t)
+    (kind_at(s, p) != ROOT_PORT) & holds(s, p, t) & !claims(s, parent_at(s, p), t)
 }
 
 // Whether a conversion is Type 0.
@@ -47,8 +48,8 @@ fn own_id_lost(s: &[u8], p: PortNo) -> bool
     ensures { λ r. ⌜ r ≡ ownIdLost (chassisOf (now (s .entry))) (p .0) ⌝ }
 {
     let parent = parent_at(s, p);
-    let own = Target::Id(own_id(s, p));
-    !(kind_at(s, p) == 0) & !(claims(s, parent, own) & is_type0(conversion(s, parent, own)))
+    let own = Target::Id(own_id_at(s, p));
+    (kind_at(s, p) != ROOT_PORT) & !(claims(s, parent, own) & is_type0(conversion(s, parent, own)))
 }
 
 // Whether a port has a fault.

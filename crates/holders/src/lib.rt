@@ -30,7 +30,7 @@ fn regarded(s: &[u8], t: Target, regard: Regard, p: PortNo) -> bool
 fn passes(s: &[u8], place: PortNo, t: Target, regard: Regard, p: PortNo) -> bool
     ensures { λ r. ⌜ r ≡ passesAt (chassisOf (now (s .entry))) (place .0) (regards regard (chassisOf (now (s .entry))) t) (p .0) ⌝ }
 {
-    if trees::parent_at(s, p).0 == place.0 {
+    if registers::parent_at(s, p).0 == place.0 {
         regarded(s, t, regard, p)
     } else {
         false

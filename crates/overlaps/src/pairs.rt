@@ -4,7 +4,7 @@ use crate::meetings::least_meeting;
 use ids::PortNo;
 use ids::Space;
 use least::Found;
-use trees::parent_at;
+use registers::parent_at;
 ghost use mathlib.Core.Path.{_≡_};
 ghost use Prim.Native.Nat.{_+_, _<_};
 ghost use Rattle.least.specs.Least.{soonest};

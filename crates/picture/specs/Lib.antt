@@ -1,3 +1,4 @@
 pub mod Header
 pub mod Layout
 pub mod Reading
+pub mod Onward

@@ -11,8 +11,6 @@ use Rattle.chassis.specs.Tree.{treeBroken, chainTooLong}
 use Rattle.registers.specs.Record.{portAt}
 use Rattle.registers.specs.Rules.{settingsWrong, startWrong}
 use Rattle.trees.specs.Trees.{countOf, treeOf}
-use Rattle.picture.specs.declared.Culprit.{Culprit}
-use Rattle.picture.specs.declared.Culprit.the-variants.{Port, Nobody}
 use Rattle.picture.specs.declared.Reading.{Reading}
 use Rattle.picture.specs.declared.Reading.the-variants.{Read, Refused}
 use Rattle.picture.specs.declared.Rule.{Rule}
@@ -63,16 +61,7 @@ reading s =
     (refusedIf (offsetWrong (length s) (headerOf s)) 5 255
     (portsReading s)))))
 
--- a port found, as the code hands it on
-abbrev pub culpritOf : Found → Culprit
-culpritOf (At p) = Port (portNo p)
-culpritOf Nothing = Nobody
-
--- the number and the port of a reading's answer, 0 and 255 where it reads
+-- the number of a reading's answer, 0 where it reads
 abbrev pub numberOf : Reading → ℕ
 numberOf (Read h) = 0
 numberOf (Refused r) = r .number
-
-abbrev pub portOf : Reading → ℕ
-portOf (Read h) = 255
-portOf (Refused r) = r .port .0

@@ -2,6 +2,8 @@
 use crate::Header;
 use lent::u16_at;
 use lent::u32_at;
+use registers::HEADER_BYTES;
+use registers::record_at;
 ghost use mathlib.Core.Path.{_≡_};
 ghost use Rattle.picture.specs.Header.{headerOf, lengthWrong, editionWrong, countWrong, totalWrong, offsetWrong};
 
@@ -29,7 +31,7 @@ pub fn length_wrong(s: &[u8]) -> bool
 pub fn edition_wrong(h: Header) -> bool
     ensures { λ r. ⌜ r ≡ editionWrong h ⌝ }
 {
-    !(h.edition == 1)
+    h.edition != 1
 }
 
 // Number 3.
@@ -43,13 +45,15 @@ pub fn count_wrong(h: Header) -> bool
 pub fn total_wrong(lent: usize, h: Header) -> bool
     ensures { λ r. ⌜ r ≡ totalWrong lent h ⌝ }
 {
-    !(h.total as usize == lent)
+    h.total as usize != lent
 }
 
 // Number 5.
 pub fn offset_wrong(lent: usize, h: Header) -> bool
     ensures { λ r. ⌜ r ≡ offsetWrong lent h ⌝ }
 {
-    let records_end = 16 + 56 * (h.count as usize);
-    !(h.records_at == 16) | !(h.vectors_at as usize == records_end) | (lent < records_end)
+    let records_end = record_at(h.count as usize);
+    (h.records_at as usize != HEADER_BYTES)
+        | (h.vectors_at as usize != records_end)
+        | (lent < records_end)
 }

@@ -1,15 +1,16 @@
 // Where the vectors of each port lie (number 10), and each vector as a part of the picture.
-use crate::Culprit;
 use ids::PortNo;
+use least::Found;
 use registers::Fpb;
 use registers::Mechanism;
 use registers::port_at;
+use registers::record_at;
 use registers::vector_bytes;
 ghost use mathlib.Core.Path.{_≡_};
 ghost use Prim.Native.Nat.{_≤_};
 ghost use Rattle.trees.specs.Trees.{countOf};
 ghost use Rattle.picture.specs.Layout.{allBytes, offsetIn, vectorOf};
-ghost use Rattle.picture.specs.Reading.{culpritOf, misplacedIn};
+ghost use Rattle.picture.specs.Reading.{misplacedIn};
 
 // The bytes of all vectors of a port.
 fn all_bytes(f: Fpb) -> u64
@@ -22,25 +23,25 @@ fn all_bytes(f: Fpb) -> u64
 }
 
 // The lowest port whose vectors start elsewhere than at the running offset, or 255 if they do not end at the total.
-pub fn misplaced(s: &[u8], n: u8) -> Culprit
+pub fn misplaced(s: &[u8], n: u8) -> Found
     requires { ⌜ n ≡ countOf (now s) ⌝ }
-    ensures { λ r. ⌜ r ≡ culpritOf (misplacedIn (now (s .entry))) ⌝ }
+    ensures { λ r. ⌜ r ≡ misplacedIn (now (s .entry)) ⌝ }
 {
-    let mut offset: u64 = 16 + 56 * (n as u64);
+    let mut offset: u64 = record_at(n as usize) as u64;
     let mut p: u8 = 0;
     while p < n {
         let port = port_at(s, PortNo(p));
         if port.vectors_at as u64 != offset {
-            return Culprit::Port(PortNo(p));
+            return Found::At(p as u64);
         }
         let f = port.fpb;
         offset += all_bytes(f);
         p += 1;
     }
     if offset != s.len() as u64 {
-        return Culprit::Port(PortNo(255));
+        return Found::At(PortNo::NONE.0 as u64);
     }
-    Culprit::Nobody
+    Found::Nothing
 }
 
 // The bytes between the start of a port's vectors and one of them.

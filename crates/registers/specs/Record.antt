@@ -34,7 +34,7 @@ fpbAt s r =
     }
 
 -- "Header of 16 .. Then n records of 56"
-abbrev pub recordAt : ℕ → ℕ
+unfoldable pub recordAt : ℕ → ℕ
 recordAt p = 16 + 56 * p
 
 unfoldable pub portAt : List ℕ → ℕ → Port

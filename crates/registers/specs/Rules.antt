@@ -2,6 +2,7 @@
 use Prim.Native.Nat.{ℕ, _+_, _%_, _^_}
 use mathlib.Core.Bool.{Bool, not, _&&_, _||_}
 use lib.Dec.{eqb, leb, ltb}
+use Rattle.chassis.specs.Tree.{upstream}
 use Rattle.registers.specs.declared.Bridge.{Bridge}
 use Rattle.registers.specs.declared.Fpb.{Fpb}
 use Rattle.registers.specs.declared.Mechanism.{Mechanism}
@@ -49,7 +50,7 @@ settingsWrong p =
 
 -- "Device Control 2 (2); bit 5 is ARI Forwarding Enable", "on a root or downstream port"
 unfoldable pub withAri : Port → Bool
-withAri p = not (eqb (p .kind) 1) && eqb (field (p .«device_control_2») 5 1) 1
+withAri p = not (eqb (p .kind) upstream) && eqb (field (p .«device_control_2») 5 1) 1
 
 -- "Starts are multiples of the granularity."
 unfoldable pub startBroken : Fpb → Mechanism → Bool

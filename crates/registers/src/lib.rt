@@ -1,5 +1,6 @@
 // A port's record: its registers by value, as the picture carries them.
 mod fields;
+mod records;
 mod rules;
 
 pub use fields::enabled;
@@ -13,6 +14,11 @@ use ids::Rid;
 use lent::u8_at;
 use lent::u16_at;
 use lent::u32_at;
+pub use records::HEADER_BYTES;
+pub use records::kind_at;
+pub use records::own_id_at;
+pub use records::parent_at;
+pub use records::record_at;
 pub use rules::settings_wrong;
 pub use rules::start_wrong;
 pub use rules::with_ari;
@@ -63,7 +69,7 @@ pub struct Port {
 
 // The Type 1 header registers of the record that starts at r.
 fn bridge_at(s: &[u8], r: usize) -> Bridge
-    requires { ⌜ r < 2 ^ 16 ⌝ }
+    requires { ⌜ r < 2 ^ 22 ⌝ }
     ensures { λ b. ⌜ b ≡ bridgeAt (now (s .entry)) r ⌝ }
 {
     Bridge {
@@ -82,7 +88,7 @@ fn bridge_at(s: &[u8], r: usize) -> Bridge
 
 // The FPB registers of the record that starts at r.
 fn fpb_at(s: &[u8], r: usize) -> Fpb
-    requires { ⌜ r < 2 ^ 16 ⌝ }
+    requires { ⌜ r < 2 ^ 22 ⌝ }
     ensures { λ f. ⌜ f ≡ fpbAt (now (s .entry)) r ⌝ }
 {
     Fpb {
@@ -99,7 +105,7 @@ fn fpb_at(s: &[u8], r: usize) -> Fpb
 pub fn port_at(s: &[u8], p: PortNo) -> Port
     ensures { λ r. ⌜ r ≡ portAt (now (s .entry)) (p .0) ⌝ }
 {
-    let r = 16 + 56 * (p.0 as usize);
+    let r = record_at(p.0 as usize);
     Port {
         kind: u8_at(s, r),
         parent: PortNo(u8_at(s, r + 1)),

@@ -8,6 +8,7 @@ use crate::fields::granularity_code;
 use crate::fields::settings;
 use crate::fields::size_code;
 use crate::fields::supported;
+use chassis::UPSTREAM;
 ghost use mathlib.Core.Path.{_≡_};
 ghost use Prim.Native.Nat.{_<_, _^_};
 ghost use Rattle.registers.specs.Rules.{sizeReserved, granularityAllowed, mechanismWrong, memoryBitsWrong, settingsWrong, withAri, startBroken, startWrong};
@@ -52,10 +53,10 @@ fn mechanism_wrong(f: Fpb, m: Mechanism) -> bool
 fn memory_bits_wrong(b: Bridge) -> bool
     ensures { λ r. ⌜ r ≡ memoryBitsWrong b ⌝ }
 {
-    !(b.memory_base % 16 == 0)
-        | !(b.memory_limit % 16 == 0)
+    (b.memory_base % 16 != 0)
+        | (b.memory_limit % 16 != 0)
         | (1 < b.prefetchable_base % 16)
-        | !(b.prefetchable_base % 16 == b.prefetchable_limit % 16)
+        | (b.prefetchable_base % 16 != b.prefetchable_limit % 16)
 }
 
 // Number 8.
@@ -74,7 +75,7 @@ pub fn settings_wrong(p: Port) -> bool
 pub fn with_ari(p: Port) -> bool
     ensures { λ r. ⌜ r ≡ withAri p ⌝ }
 {
-    !(p.kind == 1) & ((p.device_control_2 >> 5) % 2 == 1)
+    (p.kind != UPSTREAM) & ((p.device_control_2 >> 5) % 2 == 1)
 }
 
 // How many targets an entry stands for.
@@ -91,7 +92,7 @@ fn start_broken(f: Fpb, m: Mechanism) -> bool
     ensures { λ r. ⌜ r ≡ startBroken f m ⌝ }
 {
     let g = settings(f, m);
-    enabled(f, m) & !(g.start % granule(g.scale) == 0)
+    enabled(f, m) & (g.start % granule(g.scale) != 0)
 }
 
 // Number 9.
@@ -102,5 +103,5 @@ pub fn start_wrong(p: Port) -> bool
     start_broken(f, Mechanism::Rid)
         | start_broken(f, Mechanism::Low)
         | start_broken(f, Mechanism::High)
-        | (with_ari(p) & enabled(f, Mechanism::Rid) & !((f.rid_control_1 >> 19) % 32 == 0))
+        | (with_ari(p) & enabled(f, Mechanism::Rid) & ((f.rid_control_1 >> 19) % 32 != 0))
 }

@@ -36,7 +36,7 @@ fn function_number(s: &[u8], q: PortNo, t: Target) -> u8
     if claims::with_ari_at(s, q) {
         (rid.0 % 256) as u8
     } else {
-        (rid.0 % 8) as u8
+        rid.function()
     }
 }
 
@@ -88,7 +88,7 @@ fn device_or(s: &[u8], n: u8, q: PortNo, function: u8) -> Step
 fn come_to(place: PortNo) -> Whereabouts
     ensures { λ r. ⌜ r ≡ comeTo (place .0) ⌝ }
 {
-    if place.0 == 255 {
+    if place.0 == PortNo::ROOT.0 {
         Whereabouts::Root
     } else {
         Whereabouts::From(place)
@@ -102,7 +102,7 @@ fn upward(s: &[u8], t: Target, q: PortNo) -> Step
     if claims::claims(s, q, t) {
         Step::Stop(End::Unsupported(q))
     } else {
-        Step::Cross(q, come_to(trees::parent_at(s, q)))
+        Step::Cross(q, come_to(registers::parent_at(s, q)))
     }
 }
 
@@ -111,7 +111,7 @@ fn at_root(s: &[u8], n: u8, packet: Packet) -> Step
     requires { ⌜ n ≡ countOf (now s) ⌝ }
     ensures { λ r. ⌜ r ≡ atPlace (chassisOf (now (s .entry))) packet root (Step.Stop End.Host) ⌝ }
 {
-    match lowest_at(s, n, PortNo(255), target_of(packet), Regard::Held) {
+    match lowest_at(s, n, PortNo::ROOT, target_of(packet), Regard::Held) {
         Holders::Nobody => Step::Stop(End::Host),
         Holders::Only(p) => sole_holder(s, packet, p),
         Holders::Both(p, q) => Step::Stop(End::Doubled(p, q)),

@@ -16,14 +16,6 @@ pub struct Grid {
     pub settings: Settings,
 }
 
-// Whether a target lies within the range and is hit.
-pub fn hit_in(v: &[u8], g: Grid, t: u64) -> bool
-    requires { ⌜ g .settings .scale < 64 ⌝ }
-    ensures { λ r. ⌜ r ≡ hitIn (now (v .entry)) g t ⌝ }
-{
-    ranges::contains(g.within, t) & vectors::hit(v, g.settings, t)
-}
-
 // Where an entry begins, or `from` if that is later; an entry past the last target begins nowhere.
 fn begin(s: Settings, from: u64, i: u64) -> Found
     requires { ⌜ s .scale < 64 ⌝ }

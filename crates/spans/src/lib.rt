@@ -18,15 +18,6 @@ pub struct Reach {
     pub other: Grid,
 }
 
-// Whether a target is reached.
-pub fn reached(d: Reach, v: &[u8], w: &[u8], t: u64) -> bool
-    requires { ⌜ fits d ⌝ }
-    ensures { λ r. ⌜ r ≡ reaches d (now (v .entry)) (now (w .entry)) t ⌝ }
-{
-    (ranges::contains(d.first, t) | ranges::contains(d.second, t))
-        | (grids::hit_in(v, d.one, t) | grids::hit_in(w, d.other, t))
-}
-
 // The next target, from `from` on, that is reached.
 pub fn next_reached(d: Reach, v: &[u8], w: &[u8], from: u64) -> Found
     requires { ⌜ fits d ⌝ }

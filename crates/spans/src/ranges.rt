@@ -11,13 +11,6 @@ pub struct Range {
     pub hi: u64,
 }
 
-// Whether a target lies in a range.
-pub fn contains(r: Range, t: u64) -> bool
-    ensures { λ x. ⌜ x ≡ inRange r t ⌝ }
-{
-    (r.lo <= t) & (t <= r.hi)
-}
-
 // The later of two targets.
 pub fn later(a: u64, b: u64) -> u64
     ensures { λ r. ⌜ r ≡ max a b ⌝ }

@@ -1,23 +1,13 @@
 // How the ports of a picture hang together: kinds, parents, children and chains (numbers 6 and 7).
+use chassis::DOWNSTREAM;
+use chassis::ROOT_PORT;
+use chassis::UPSTREAM;
 use ids::PortNo;
+use registers::kind_at;
+use registers::parent_at;
 ghost use mathlib.Core.Path.{_≡_};
 ghost use Rattle.chassis.specs.Tree.{hasChildBelow, isDevicePort, upstreamBroken, downstreamBroken, treeBroken, oneAbove, chainTooLong};
-ghost use Rattle.registers.specs.Record.{portAt};
 ghost use Rattle.trees.specs.Trees.{countOf, treeOf};
-
-// 0 root port, 1 switch upstream, 2 switch downstream.
-pub fn kind_at(s: &[u8], p: PortNo) -> u8
-    ensures { λ r. ⌜ r ≡ portAt (now (s .entry)) (p .0) .kind ⌝ }
-{
-    lent::u8_at(s, 16 + 56 * (p.0 as usize))
-}
-
-// The port above, 255 for a root port.
-pub fn parent_at(s: &[u8], p: PortNo) -> PortNo
-    ensures { λ r. ⌜ r .0 ≡ portAt (now (s .entry)) (p .0) .parent .0 ⌝ }
-{
-    PortNo(lent::u8_at(s, 16 + 56 * (p.0 as usize) + 1))
-}
 
 // Whether one of the ports below number n is a child of q.
 pub fn has_child_below(s: &[u8], n: u8, q: PortNo) -> bool
@@ -37,7 +27,7 @@ pub fn is_device_port(s: &[u8], n: u8, p: PortNo) -> bool
     requires { ⌜ n ≡ countOf (now s) ⌝ }
     ensures { λ r. ⌜ r ≡ isDevicePort (treeOf (now (s .entry))) (p .0) ⌝ }
 {
-    (p.0 < n) & !(kind_at(s, p) == 1) & !has_child_below(s, n, p)
+    (p.0 < n) & (kind_at(s, p) != UPSTREAM) & !has_child_below(s, n, p)
 }
 
 // An upstream port below an upstream port, or below one that is a parent already.
@@ -45,14 +35,14 @@ fn upstream_broken(s: &[u8], p: PortNo) -> bool
     ensures { λ r. ⌜ r ≡ upstreamBroken (treeOf (now (s .entry))) (p .0) ⌝ }
 {
     let parent = parent_at(s, p);
-    (kind_at(s, parent) == 1) | has_child_below(s, p.0, parent)
+    (kind_at(s, parent) == UPSTREAM) | has_child_below(s, p.0, parent)
 }
 
 // A downstream port that is not below an upstream port.
 fn downstream_broken(s: &[u8], p: PortNo) -> bool
     ensures { λ r. ⌜ r ≡ downstreamBroken (treeOf (now (s .entry))) (p .0) ⌝ }
 {
-    !(kind_at(s, parent_at(s, p)) == 1)
+    kind_at(s, parent_at(s, p)) != UPSTREAM
 }
 
 // Number 6.
@@ -61,20 +51,20 @@ pub fn tree_broken(s: &[u8], p: PortNo) -> bool
 {
     let kind = kind_at(s, p);
     let parent = parent_at(s, p);
-    if kind == 0 {
-        return !(parent.0 == 255);
+    if kind == ROOT_PORT {
+        return parent.0 != PortNo::ROOT.0;
     }
-    if kind == 1 {
+    if kind == UPSTREAM {
         return !(parent.0 < p.0) | upstream_broken(s, p);
     }
-    !(parent.0 < p.0) | (!(kind == 2) | downstream_broken(s, p))
+    !(parent.0 < p.0) | ((kind != DOWNSTREAM) | downstream_broken(s, p))
 }
 
 // The port above p, and 255 once the root is reached.
 fn step_up(s: &[u8], p: PortNo) -> PortNo
     ensures { λ r. ⌜ r .0 ≡ oneAbove (treeOf (now (s .entry))) (p .0) ⌝ }
 {
-    if p.0 == 255 {
+    if p.0 == PortNo::ROOT.0 {
         return p;
     }
     parent_at(s, p)
@@ -90,5 +80,5 @@ pub fn chain_too_long(s: &[u8], p: PortNo) -> bool
         q = step_up(s, q);
         k += 1;
     }
-    !(q.0 == 255)
+    q.0 != PortNo::ROOT.0
 }

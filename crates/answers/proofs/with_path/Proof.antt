@@ -12,26 +12,8 @@ Inv-loop places out₀ i₀ out i = Filled out₀ out places i
 abbrev μ-loop : tie.MeasureT-loop
 μ-loop places out₀ i₀ out i = 32 - i
 
-without-places-requires : tie.Need-without-places-requires Inv-loop μ-loop
-without-places-requires c κs = search needs
-
 loop-holds : tie.Need-loop-holds Inv-loop μ-loop
 loop-holds c = filled-none _ _ (c .without-places .ok .1 .0 .1)
-
-array-copy-out-p : tie.Need-array-copy-out-p Inv-loop μ-loop
-array-copy-out-p c = search needs
-
-add-out : tie.Need-add-out Inv-loop μ-loop
-add-out c = search needs
-
-array-write-out : tie.Need-array-write-out Inv-loop μ-loop
-array-write-out c = search needs
-
-add-i : tie.Need-add-i Inv-loop μ-loop
-add-i c = search needs
-
-loop-less : tie.Need-loop-less Inv-loop μ-loop
-loop-less c = search needs
 
 loop-again : tie.Need-loop-again Inv-loop μ-loop
 loop-again c = filled-more _ _ _ (c .before .before .before .before .good .1 .0 .1 .0 .1) (c .before .before .loop .i) _ (omega arith) (c .before .before .loop .inv)
@@ -46,12 +28,12 @@ with-path-spec =
     (tie.spec
     Inv-loop
     μ-loop
-    without-places-requires
+    (λ c κs. search needs)
     loop-holds
-    array-copy-out-p
-    add-out
-    array-write-out
-    add-i
-    loop-less
+    (λ c. search needs)
+    (λ c. search needs)
+    (λ c. search needs)
+    (λ c. search needs)
+    (λ c. search needs)
     loop-again
     returns)

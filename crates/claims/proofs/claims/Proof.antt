@@ -2,18 +2,6 @@ use borrow.Author.Needs.{needs}
 use Rattle.claims.proofs.claims.Statement.{statement}
 use Rattle.claims.proofs.claims.Tie as tie
 
-enum-known-t : tie.Need-enum-known-t
-enum-known-t c = search needs
-
-claims-id-requires : tie.Need-claims-id-requires
-claims-id-requires c κs = search needs
-
-enum-known-t-2 : tie.Need-enum-known-t-2
-enum-known-t-2 c = search needs
-
-claims-address-requires : tie.Need-claims-address-requires
-claims-address-requires c κs = search needs
-
 returns : tie.Need-returns
 returns c = rw (c .before .before .t .given .1) (c .claims-id .ensures)
 
@@ -24,9 +12,9 @@ pub claims-spec : {M : Type 1} → statement M
 claims-spec =
     tie.close
     (tie.spec
-    enum-known-t
-    claims-id-requires
-    enum-known-t-2
-    claims-address-requires
+    (λ c. search needs)
+    (λ c κs. search needs)
+    (λ c. search needs)
+    (λ c κs. search needs)
     returns
     returns-2)

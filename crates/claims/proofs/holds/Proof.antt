@@ -3,15 +3,9 @@ use borrow.Author.Needs.{needs}
 use Rattle.claims.proofs.holds.Statement.{statement}
 use Rattle.claims.proofs.holds.Tie as tie
 
-is-own-requires : tie.Need-is-own-requires
-is-own-requires c κs = search needs
-
-claims-requires : tie.Need-claims-requires
-claims-requires c κs = search needs
-
 returns : tie.Need-returns
 unfolding holds
 returns c = rw (c .claims .ensures, c .before .is-own .ensures)
 
 pub holds-spec : {M : Type 1} → statement M
-holds-spec = tie.close (tie.spec is-own-requires claims-requires returns)
+holds-spec = tie.close (tie.spec (λ c κs. search needs) (λ c κs. search needs) returns)

@@ -20,18 +20,6 @@ loop-holds : tie.Need-loop-holds Inv-loop μ-loop
 unfolding lowestTwo
 loop-holds c = (search needs, refl)
 
-passes-requires : tie.Need-passes-requires Inv-loop μ-loop
-passes-requires c κs = tt
-
-with-port-requires : tie.Need-with-port-requires Inv-loop μ-loop
-with-port-requires c κs = tt
-
-add-p : tie.Need-add-p Inv-loop μ-loop
-add-p c = omega arith
-
-loop-less : tie.Need-loop-less Inv-loop μ-loop
-loop-less c = omega arith
-
 loop-again : tie.Need-loop-again Inv-loop μ-loop
 unfolding lowestTwo
 loop-again c = (omega arith, rw (add-one, ← c .before .passes .ensures, ← c .before .before .before .loop .inv .1) (c .with-port .ensures))
@@ -46,9 +34,9 @@ lowest-at-spec =
     Inv-loop
     μ-loop
     loop-holds
-    passes-requires
-    with-port-requires
-    add-p
-    loop-less
+    (λ c κs. tt)
+    (λ c κs. tt)
+    (λ c. omega arith)
+    (λ c. omega arith)
     loop-again
     returns)

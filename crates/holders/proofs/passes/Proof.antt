@@ -4,12 +4,6 @@ use borrow.Author.Needs.{needs}
 use Rattle.holders.proofs.passes.Statement.{statement}
 use Rattle.holders.proofs.passes.Tie as tie
 
-parent-at-requires : tie.Need-parent-at-requires
-parent-at-requires c κs = search needs
-
-regarded-requires : tie.Need-regarded-requires
-regarded-requires c κs = search needs
-
 returns : tie.Need-returns
 unfolding passesAt
 returns c = rw (← c .before .before .before .before .parent-at .ensures, eq-eqb _ _ (c .before .if1 .taken)) (c .regarded .ensures)
@@ -19,4 +13,4 @@ unfolding passesAt
 returns-2 c = rw (← c .before .before .before .parent-at .ensures, ne-eqb _ _ (c .if1 .left))
 
 pub passes-spec : {M : Type 1} → statement M
-passes-spec = tie.close (tie.spec parent-at-requires regarded-requires returns returns-2)
+passes-spec = tie.close (tie.spec (λ c κs. search needs) (λ c κs. search needs) returns returns-2)

@@ -2,24 +2,6 @@ use borrow.Author.Needs.{needs}
 use Rattle.holders.proofs.regarded.Statement.{statement}
 use Rattle.holders.proofs.regarded.Tie as tie
 
-enum-told : tie.Need-enum-told
-enum-told c = search needs
-
-holds-requires : tie.Need-holds-requires
-holds-requires c κs = search needs
-
-enum-told-2 : tie.Need-enum-told-2
-enum-told-2 c = search needs
-
-is-own-requires : tie.Need-is-own-requires
-is-own-requires c κs = search needs
-
-enum-told-3 : tie.Need-enum-told-3
-enum-told-3 c = search needs
-
-claims-requires : tie.Need-claims-requires
-claims-requires c κs = search needs
-
 returns : tie.Need-returns
 returns c = rw (c .before .enum-told .given .1) (c .holds .ensures)
 
@@ -33,12 +15,12 @@ pub regarded-spec : {M : Type 1} → statement M
 regarded-spec =
     tie.close
     (tie.spec
-    enum-told
-    holds-requires
-    enum-told-2
-    is-own-requires
-    enum-told-3
-    claims-requires
+    (λ c. search needs)
+    (λ c κs. search needs)
+    (λ c. search needs)
+    (λ c κs. search needs)
+    (λ c. search needs)
+    (λ c κs. search needs)
     returns
     returns-2
     returns-3)

@@ -8,15 +8,6 @@ returns : tie.Need-returns
 unfolding withPort
 returns c = rw (not-true (c .before .args .passes) (c .if1 .taken))
 
-enum-told : tie.Need-enum-told
-enum-told c = search needs
-
-enum-known-found : tie.Need-enum-known-found
-enum-known-found c = search needs
-
-enum-known-found-2 : tie.Need-enum-known-found-2
-enum-known-found-2 c = search needs
-
 returns-2 : tie.Need-returns-2
 unfolding withPort
 returns-2 c = rw (not-false (c .before .before .before .args .passes) (c .before .before .if1 .left), c .enum-told .given .1)
@@ -32,4 +23,4 @@ returns-4 c = rw (not-false (c .before .before .before .before .args .passes) (c
 pub with-port-spec : {M : Type 1} → statement M
 with-port-spec =
     tie.close
-    (tie.spec returns enum-told enum-known-found enum-known-found-2 returns-2 returns-3 returns-4)
+    (tie.spec returns (λ c. search needs) (λ c. search needs) (λ c. search needs) returns-2 returns-3 returns-4)

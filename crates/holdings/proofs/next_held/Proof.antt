@@ -3,18 +3,6 @@ use borrow.Author.Needs.{needs}
 use Rattle.holdings.proofs.next_held.Statement.{statement}
 use Rattle.holdings.proofs.next_held.Tie as tie
 
-reach-at-requires : tie.Need-reach-at-requires
-reach-at-requires c κs = search needs
-
-one-of-requires : tie.Need-one-of-requires
-one-of-requires c κs = search needs
-
-vector-requires : tie.Need-vector-requires
-vector-requires c κs = search needs
-
-vector-requires-2 : tie.Need-vector-requires-2
-vector-requires-2 c κs = search needs
-
 next-reached-requires : tie.Need-next-reached-requires
 next-reached-requires c κs = c .before .before .before .reach-at .ensures .1 .0
 
@@ -25,9 +13,9 @@ pub next-held-spec : {M : Type 1} → statement M
 next-held-spec =
     tie.close
     (tie.spec
-    reach-at-requires
-    one-of-requires
-    vector-requires
-    vector-requires-2
+    (λ c κs. search needs)
+    (λ c κs. search needs)
+    (λ c κs. search needs)
+    (λ c κs. search needs)
     next-reached-requires
     returns)

@@ -3,12 +3,6 @@ use Rattle.least.specs.Least.{isBy}
 use Rattle.least.proofs.is_by.Statement.{statement}
 use Rattle.least.proofs.is_by.Tie as tie
 
-enum-known-found : tie.Need-enum-known-found
-enum-known-found c = search needs
-
-enum-told : tie.Need-enum-told
-enum-told c = search needs
-
 returns : tie.Need-returns
 unfolding isBy
 returns c = rw (c .before .found .given .1)
@@ -18,4 +12,4 @@ unfolding isBy
 returns-2 c = rw (c .enum-told .given .1)
 
 pub is-by-spec : {M : Type 1} → statement M
-is-by-spec = tie.close (tie.spec enum-known-found enum-told returns returns-2)
+is-by-spec = tie.close (tie.spec (λ c. search needs) (λ c. search needs) returns returns-2)

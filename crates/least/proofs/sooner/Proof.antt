@@ -3,21 +3,6 @@ use borrow.Author.Tests.{le-leb, lt-leb}
 use Rattle.least.proofs.sooner.Statement.{statement}
 use Rattle.least.proofs.sooner.Tie as tie
 
-enum-told : tie.Need-enum-told
-enum-told c = search needs
-
-enum-known-a : tie.Need-enum-known-a
-enum-known-a c = search needs
-
-enum-told-2 : tie.Need-enum-told-2
-enum-told-2 c = search needs
-
-enum-known-b : tie.Need-enum-known-b
-enum-known-b c = search needs
-
-returns : tie.Need-returns
-returns c = search needs
-
 returns-2 : tie.Need-returns-2
 returns-2 c = rw (c .before .before .before .a .given .1, c .enum-told2 .given .1)
 
@@ -31,11 +16,11 @@ pub sooner-spec : {M : Type 1} → statement M
 sooner-spec =
     tie.close
     (tie.spec
-    enum-told
-    enum-known-a
-    enum-told-2
-    enum-known-b
-    returns
+    (λ c. search needs)
+    (λ c. search needs)
+    (λ c. search needs)
+    (λ c. search needs)
+    (λ c. search needs)
     returns-2
     returns-3
     returns-4)

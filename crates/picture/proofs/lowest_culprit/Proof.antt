@@ -1,9 +1,9 @@
-use Rattle.picture.proofs.Laws.{culprit-here, culprit-nowhere}
+use native.Mathlib.Nat.{le-refl}
 use Rattle.picture.specs.Reading.{breaks}
-use Rattle.least.proofs.Laws.{NoneIn, none-empty, none-more}
+use Rattle.least.proofs.Laws.{NoneIn, none-empty, none-more, none-part, at-is, none-is}
 use native.Mathlib.Omega.{arith}
 use mathlib.Core.Path.{sym, _∙_}
-use Prim.Native.Nat.{_≤_, _-_}
+use Prim.Native.Nat.{_≤_, _-_, zero-le}
 use Rattle.picture.proofs.lowest_culprit.Statement.{statement}
 use Rattle.picture.proofs.lowest_culprit.Tie as tie
 
@@ -16,23 +16,21 @@ abbrev μ-loop : tie.MeasureT-loop
 loop-holds : tie.Need-loop-holds Inv-loop μ-loop
 loop-holds c = (omega arith, none-empty (omega arith))
 
-breaks-rule-requires : tie.Need-breaks-rule-requires Inv-loop μ-loop
-breaks-rule-requires c κs = tt
-
 returns : tie.Need-returns Inv-loop μ-loop
-returns c = culprit-here _ _ _ (c .before .before .loop-test .taken) (sym (c .before .breaks-rule .ensures) ∙ c .if1 .taken) (c .before .before .before .loop .inv .1)
-
-add-p : tie.Need-add-p Inv-loop μ-loop
-add-p c = omega arith
-
-loop-less : tie.Need-loop-less Inv-loop μ-loop
-loop-less c = omega arith
+returns c =
+    at-is
+    (record {
+      from = zero-le;
+      below = c .before .before .loop-test .taken;
+      holds = sym (c .before .breaks-rule .ensures) ∙ c .if1 .taken;
+      first = c .before .before .before .loop .inv .1;
+    })
 
 loop-again : tie.Need-loop-again Inv-loop μ-loop
 loop-again c = (omega arith, none-more (c .before .before .before .loop .inv .1) (sym (c .before .breaks-rule .ensures) ∙ c .if1 .left))
 
 returns-2 : tie.Need-returns-2 Inv-loop μ-loop
-returns-2 c = culprit-nowhere _ _ _ (c .loop-test .left) (c .before .loop .inv .0) (c .before .loop .inv .1)
+returns-2 c = none-is (none-part (le-refl _) (c .loop-test .left) (c .before .loop .inv .1))
 
 pub lowest-culprit-spec : {M : Type 1} → statement M
 lowest-culprit-spec =
@@ -41,9 +39,10 @@ lowest-culprit-spec =
     Inv-loop
     μ-loop
     loop-holds
-    breaks-rule-requires
+    (λ c κs. tt)
+    (λ c. omega arith)
     returns
-    add-p
-    loop-less
+    (λ c. omega arith)
+    (λ c. omega arith)
     loop-again
     returns-2)

@@ -5,54 +5,21 @@ use borrow.Author.Needs.{needs}
 use Rattle.picture.proofs.read.Statement.{statement}
 use Rattle.picture.proofs.read.Tie as tie
 
-length-wrong-requires : tie.Need-length-wrong-requires
-length-wrong-requires c κs = search needs
-
-refuse-requires : tie.Need-refuse-requires
-refuse-requires c κs = search needs
-
 returns : tie.Need-returns
 unfolding reading
 returns c = rw (← c .before .before .length-wrong .ensures, c .before .if1 .taken) (c .refuse .ensures)
-
-header-at-requires : tie.Need-header-at-requires
-header-at-requires c κs = search needs
-
-edition-wrong-requires : tie.Need-edition-wrong-requires
-edition-wrong-requires c κs = search needs
-
-refuse-requires-2 : tie.Need-refuse-requires-2
-refuse-requires-2 c κs = search needs
 
 returns-2 : tie.Need-returns-2
 unfolding reading
 returns-2 c = rw (← c .before .before .before .before .before .length-wrong .ensures, c .before .before .before .before .if1 .left, ← c .before .before .before .header-at .ensures, ← c .before .before .edition-wrong .ensures, c .before .if2 .taken) (c .refuse2 .ensures)
 
-count-wrong-requires : tie.Need-count-wrong-requires
-count-wrong-requires c κs = search needs
-
-refuse-requires-3 : tie.Need-refuse-requires-3
-refuse-requires-3 c κs = search needs
-
 returns-3 : tie.Need-returns-3
 unfolding reading
 returns-3 c = rw (← c .before .before .before .before .before .before .before .length-wrong .ensures, c .before .before .before .before .before .before .if1 .left, ← c .before .before .before .before .before .header-at .ensures, ← c .before .before .before .before .edition-wrong .ensures, c .before .before .before .if2 .left, ← c .before .before .count-wrong .ensures, c .before .if3 .taken) (c .refuse3 .ensures)
 
-total-wrong-requires : tie.Need-total-wrong-requires
-total-wrong-requires c κs = search needs
-
-refuse-requires-4 : tie.Need-refuse-requires-4
-refuse-requires-4 c κs = search needs
-
 returns-4 : tie.Need-returns-4
 unfolding reading
 returns-4 c = rw (← c .before .before .before .before .before .before .before .before .before .length-wrong .ensures, c .before .before .before .before .before .before .before .before .if1 .left, ← c .before .before .before .before .before .before .before .header-at .ensures, ← c .before .before .before .before .before .before .edition-wrong .ensures, c .before .before .before .before .before .if2 .left, ← c .before .before .before .before .count-wrong .ensures, c .before .before .before .if3 .left, ← c .before .before .total-wrong .ensures, c .before .if4 .taken) (c .refuse4 .ensures)
-
-offset-wrong-requires : tie.Need-offset-wrong-requires
-offset-wrong-requires c κs = search needs
-
-refuse-requires-5 : tie.Need-refuse-requires-5
-refuse-requires-5 c κs = search needs
 
 returns-5 : tie.Need-returns-5
 unfolding reading
@@ -69,21 +36,21 @@ pub read-spec : {M : Type 1} → statement M
 read-spec =
     tie.close
     (tie.spec
-    length-wrong-requires
-    refuse-requires
+    (λ c κs. search needs)
+    (λ c κs. search needs)
     returns
-    header-at-requires
-    edition-wrong-requires
-    refuse-requires-2
+    (λ c κs. search needs)
+    (λ c κs. search needs)
+    (λ c κs. search needs)
     returns-2
-    count-wrong-requires
-    refuse-requires-3
+    (λ c κs. search needs)
+    (λ c κs. search needs)
     returns-3
-    total-wrong-requires
-    refuse-requires-4
+    (λ c κs. search needs)
+    (λ c κs. search needs)
     returns-4
-    offset-wrong-requires
-    refuse-requires-5
+    (λ c κs. search needs)
+    (λ c κs. search needs)
     returns-5
     read-ports-requires
     returns-6)

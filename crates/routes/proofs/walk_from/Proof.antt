@@ -12,23 +12,14 @@ Inv-loop s n packet path₀ whereabouts₀ path whereabouts = Underway (chassisO
 abbrev μ-loop : tie.MeasureT-loop
 μ-loop s n packet path₀ whereabouts₀ path whereabouts = left (chassisOf s) whereabouts
 
-new-requires : tie.Need-new-requires Inv-loop μ-loop
-new-requires c κs = tt
-
 loop-holds : tie.Need-loop-holds Inv-loop μ-loop
 loop-holds c = sets-out _ _ _ _ (c .new .ensures)
 
 step-requires : tie.Need-step-requires Inv-loop μ-loop
 step-requires c κs = c .before .before .before .pre .0
 
-enum-known-end : tie.Need-enum-known-end Inv-loop μ-loop
-enum-known-end c = search needs
-
 returns : tie.Need-returns Inv-loop μ-loop
 returns c = arrives (c .before .before .before .before .loop .inv) (sym (c .before .before .before .step .ensures) ∙ c .before .end .given .1)
-
-enum-known-p : tie.Need-enum-known-p Inv-loop μ-loop
-enum-known-p c = search needs
 
 crossed-requires : tie.Need-crossed-requires Inv-loop μ-loop
 crossed-requires c κs = room _ _ (c .before .before .before .before .before .before .before .pre .1 .0) (c .before .before .before .before .before .before .before .pre .1 .1) (c .before .before .before .before .loop .inv) (sym (c .before .before .before .step .ensures) ∙ c .before .p .given .1)
@@ -45,12 +36,12 @@ walk-from-spec =
     (tie.spec
     Inv-loop
     μ-loop
-    new-requires
+    (λ c κs. tt)
     loop-holds
     step-requires
-    enum-known-end
+    (λ c. search needs)
     returns
-    enum-known-p
+    (λ c. search needs)
     crossed-requires
     loop-less
     loop-again)

@@ -19,20 +19,8 @@ abbrev μ-loop : tie.MeasureT-loop
 loop-holds : tie.Need-loop-holds Inv-loop μ-loop
 loop-holds c = none-empty (le-refl 0)
 
-next-reached-requires : tie.Need-next-reached-requires Inv-loop μ-loop
-next-reached-requires c κs = search needs
-
-enum-known-j : tie.Need-enum-known-j Inv-loop μ-loop
-enum-known-j c = search needs
-
-enum-told : tie.Need-enum-told Inv-loop μ-loop
-enum-told c = search needs
-
 returns : tie.Need-returns Inv-loop μ-loop
 returns c = ends-left _ _ _ _ _ _ _ _ (c .before .before .before .loop .inv) (sym (c .enum-told .given .1) ∙ c .before .before .next-reached .ensures)
-
-is-by-requires : tie.Need-is-by-requires Inv-loop μ-loop
-is-by-requires c κs = search needs
 
 returns-2 : tie.Need-returns-2 Inv-loop μ-loop
 returns-2 c =
@@ -41,24 +29,12 @@ returns-2 c =
     (sym (at .before .j .given .1) ∙ at .before .before .before .next-reached .ensures)
     (sym (c .before .is-by .ensures) ∙ c .if1 .taken)
 
-next-where-requires : tie.Need-next-where-requires Inv-loop μ-loop
-next-where-requires c κs = search needs
-
-enum-known-k : tie.Need-enum-known-k Inv-loop μ-loop
-enum-known-k c = search needs
-
-enum-told-2 : tie.Need-enum-told-2 Inv-loop μ-loop
-enum-told-2 c = search needs
-
 returns-3 : tie.Need-returns-3 Inv-loop μ-loop
 returns-3 c =
     let at = c .before .before .before .before .before in
     ends-right _ _ _ _ _ _ _ _ (at .before .before .before .before .loop .inv)
     (sym (at .before .j .given .1) ∙ at .before .before .before .next-reached .ensures)
     (sym (c .enum-told2 .given .1) ∙ c .before .before .next-where .ensures)
-
-sooner-requires : tie.Need-sooner-requires Inv-loop μ-loop
-sooner-requires c κs = search needs
 
 returns-4 : tie.Need-returns-4 Inv-loop μ-loop
 returns-4 c =
@@ -92,17 +68,17 @@ least-both-spec =
     Inv-loop
     μ-loop
     loop-holds
-    next-reached-requires
-    enum-known-j
-    enum-told
+    (λ c κs. search needs)
+    (λ c. search needs)
+    (λ c. search needs)
     returns
-    is-by-requires
+    (λ c κs. search needs)
     returns-2
-    next-where-requires
-    enum-known-k
-    enum-told-2
+    (λ c κs. search needs)
+    (λ c. search needs)
+    (λ c. search needs)
     returns-3
-    sooner-requires
+    (λ c κs. search needs)
     returns-4
     loop-less
     loop-again)

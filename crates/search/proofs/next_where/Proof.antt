@@ -4,12 +4,6 @@ use Rattle.search.proofs.Laws.{wanted, unwanted}
 use Rattle.search.proofs.next_where.Statement.{statement}
 use Rattle.search.proofs.next_where.Tie as tie
 
-next-reached-requires : tie.Need-next-reached-requires
-next-reached-requires c κs = search needs
-
-next-unreached-requires : tie.Need-next-unreached-requires
-next-unreached-requires c κs = search needs
-
 returns : tie.Need-returns
 returns c = rw (c .before .if1 .taken) (c .next-reached .ensures ∙ wanted _ _ _ _)
 
@@ -18,4 +12,4 @@ returns-2 c = rw (c .before .if1 .left) (c .next-unreached .ensures ∙ unwanted
 
 pub next-where-spec : {M : Type 1} → statement M
 next-where-spec =
-    tie.close (tie.spec next-reached-requires next-unreached-requires returns returns-2)
+    tie.close (tie.spec (λ c κs. search needs) (λ c κs. search needs) returns returns-2)

@@ -2,14 +2,8 @@ use borrow.Author.Needs.{needs}
 use Rattle.timing.proofs.timing_claim_address.Statement.{statement}
 use Rattle.timing.proofs.timing_claim_address.Tie as tie
 
-claim-requires : tie.Need-claim-requires
-claim-requires c κs = search needs
-
-claim-code-requires : tie.Need-claim-code-requires
-claim-code-requires c κs = search needs
-
 returns : tie.Need-returns
 returns c = rw (c .claim-code .ensures, c .before .claim .ensures .0)
 
 pub timing-claim-address-spec : {M : Type 1} → statement M
-timing-claim-address-spec = tie.close (tie.spec claim-requires claim-code-requires returns)
+timing-claim-address-spec = tie.close (tie.spec (λ c κs. search needs) (λ c κs. search needs) returns)

@@ -19,24 +19,15 @@ loop-holds : tie.Need-loop-holds Inv-loop μ-loop
 unfolding above
 loop-holds c = (search needs, refl)
 
-step-up-requires : tie.Need-step-up-requires Inv-loop μ-loop
-step-up-requires c κs = tt
-
-add-k : tie.Need-add-k Inv-loop μ-loop
-add-k c = omega arith
-
-loop-less : tie.Need-loop-less Inv-loop μ-loop
-loop-less c = omega arith
-
 loop-again : tie.Need-loop-again Inv-loop μ-loop
 unfolding above
 loop-again c = (omega arith, rw (add-one, ← c .before .before .loop .inv .1) (c .step-up .ensures))
 
 returns : tie.Need-returns Inv-loop μ-loop
 unfolding chainTooLong
-returns c = rw (c .before .before .loop .inv .1, le-antisymm (c .before .before .loop .inv .0) (c .before .loop-test .left))
+returns c = rw (c .before .before .before .loop .inv .1, le-antisymm (c .before .before .before .loop .inv .0) (c .before .before .loop-test .left))
 
 pub chain-too-long-spec : {M : Type 1} → statement M
 chain-too-long-spec =
     tie.close
-    (tie.spec Inv-loop μ-loop loop-holds step-up-requires add-k loop-less loop-again returns)
+    (tie.spec Inv-loop μ-loop loop-holds (λ c κs. tt) (λ c. omega arith) (λ c. omega arith) loop-again returns)

@@ -19,15 +19,6 @@ loop-holds : tie.Need-loop-holds Inv-loop μ-loop
 unfolding anyBelow
 loop-holds c = (search needs, refl)
 
-parent-at-requires : tie.Need-parent-at-requires Inv-loop μ-loop
-parent-at-requires c κs = tt
-
-add-p : tie.Need-add-p Inv-loop μ-loop
-add-p c = omega arith
-
-loop-less : tie.Need-loop-less Inv-loop μ-loop
-loop-less c = omega arith
-
 loop-again : tie.Need-loop-again Inv-loop μ-loop
 unfolding anyBelow
 loop-again c = (omega arith, rw (add-one, c .before .before .before .before .loop .inv .1, c .before .before .parent-at .ensures))
@@ -38,4 +29,4 @@ returns c = rw (← le-antisymm (c .before .loop .inv .0) (c .loop-test .left)) 
 pub has-child-below-spec : {M : Type 1} → statement M
 has-child-below-spec =
     tie.close
-    (tie.spec Inv-loop μ-loop loop-holds parent-at-requires add-p loop-less loop-again returns)
+    (tie.spec Inv-loop μ-loop loop-holds (λ c κs. tt) (λ c. omega arith) (λ c. omega arith) loop-again returns)

@@ -8,12 +8,9 @@ returns : tie.Need-returns
 unfolding oneAbove
 returns c = rw (eq-eqb _ _ (c .if1 .taken)) (c .if1 .taken)
 
-parent-at-requires : tie.Need-parent-at-requires
-parent-at-requires c κs = search needs
-
 returns-2 : tie.Need-returns-2
 unfolding oneAbove
 returns-2 c = rw (ne-eqb _ _ (c .before .if1 .left)) (c .parent-at .ensures)
 
 pub step-up-spec : {M : Type 1} → statement M
-step-up-spec = tie.close (tie.spec returns parent-at-requires returns-2)
+step-up-spec = tie.close (tie.spec returns (λ c κs. search needs) returns-2)

@@ -10,12 +10,6 @@ returns : tie.Need-returns
 unfolding entryOf
 returns c = simp (lt-leb _ _ (c .if1 .taken))
 
-cast-i : tie.Need-cast-i
-cast-i c = search needs
-
-shr-i : tie.Need-shr-i
-shr-i c = search needs
-
 returns-2 : tie.Need-returns-2
 unfolding entryOf
 returns-2 c =
@@ -31,4 +25,4 @@ returns-3 c =
     simp (le-leb _ _ (c .before .before .before .before .if1 .left), le-ltb _ _ past)
 
 pub entry-spec : {M : Type 1} → statement M
-entry-spec = tie.close (tie.spec returns cast-i shr-i returns-2 returns-3)
+entry-spec = tie.close (tie.spec returns (λ c. search needs) (λ c. search needs) returns-2 returns-3)

@@ -4,18 +4,6 @@ use Rattle.vectors.proofs.Laws.{hits-entry, misses-entry}
 use Rattle.vectors.proofs.hit.Statement.{statement}
 use Rattle.vectors.proofs.hit.Tie as tie
 
-entry-requires : tie.Need-entry-requires
-entry-requires c κs = search needs
-
-enum-known-i : tie.Need-enum-known-i
-enum-known-i c = search needs
-
-is-set-requires : tie.Need-is-set-requires
-is-set-requires c κs = search needs
-
-enum-told : tie.Need-enum-told
-enum-told c = search needs
-
 returns : tie.Need-returns
 returns c = c .is-set .ensures ∙ hits-entry _ _ _ (sym (c .before .before .i .given .1) ∙ c .before .before .before .before .entry .ensures)
 
@@ -24,4 +12,4 @@ returns-2 c = misses-entry _ _ _ (sym (c .enum-told .given .1) ∙ c .before .be
 
 pub hit-spec : {M : Type 1} → statement M
 hit-spec =
-    tie.close (tie.spec entry-requires enum-known-i is-set-requires enum-told returns returns-2)
+    tie.close (tie.spec (λ c κs. search needs) (λ c. search needs) (λ c κs. search needs) (λ c. search needs) returns returns-2)

@@ -17,9 +17,6 @@ abbrev μ-loop : tie.MeasureT-loop
 loop-holds : tie.Need-loop-holds Inv-loop μ-loop
 loop-holds c = (le-refl _, none-empty (le-refl _))
 
-is-set-requires : tie.Need-is-set-requires Inv-loop μ-loop
-is-set-requires c κs = search needs
-
 returns : tie.Need-returns Inv-loop μ-loop
 unfolding entryIs
 returns c =
@@ -31,12 +28,6 @@ returns c =
       holds = rw (← c .before .is-set .ensures) (c .if1 .taken);
       first = came .1;
     })
-
-add-i : tie.Need-add-i Inv-loop μ-loop
-add-i c = omega arith
-
-loop-less : tie.Need-loop-less Inv-loop μ-loop
-loop-less c = omega arith
 
 loop-again : tie.Need-loop-again Inv-loop μ-loop
 unfolding entryIs
@@ -52,9 +43,9 @@ next-entry-spec =
     Inv-loop
     μ-loop
     loop-holds
-    is-set-requires
+    (λ c κs. search needs)
     returns
-    add-i
-    loop-less
+    (λ c. omega arith)
+    (λ c. omega arith)
     loop-again
     returns-2)

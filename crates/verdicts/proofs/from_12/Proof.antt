@@ -7,23 +7,11 @@ use borrow.Author.Needs.{needs}
 use Rattle.verdicts.proofs.from_12.Statement.{statement}
 use Rattle.verdicts.proofs.from_12.Tie as tie
 
-least-shared-requires : tie.Need-least-shared-requires
-least-shared-requires c κs = search needs
-
-enum-known-t : tie.Need-enum-known-t
-enum-known-t c = search needs
-
 target-in-requires : tie.Need-target-in-requires
 target-in-requires c κs = target-below _ Addresses (sym (c .before .t .given .1) ∙ c .before .before .before .least-shared .ensures)
 
 shared-at-requires : tie.Need-shared-at-requires
 shared-at-requires c κs = (c .before .before .before .before .before .before .pre, rw (c .target-in .ensures) (target-passes _ Addresses (sym (c .before .before .t .given .1) ∙ c .before .before .before .before .least-shared .ensures)))
-
-enum-told : tie.Need-enum-told
-enum-told c = search needs
-
-from-13-requires : tie.Need-from-13-requires
-from-13-requires c κs = search needs
 
 returns : tie.Need-returns
 unfolding from12
@@ -37,11 +25,11 @@ pub from-12-spec : {M : Type 1} → statement M
 from-12-spec =
     tie.close
     (tie.spec
-    least-shared-requires
-    enum-known-t
+    (λ c κs. search needs)
+    (λ c. search needs)
     target-in-requires
     shared-at-requires
-    enum-told
-    from-13-requires
+    (λ c. search needs)
+    (λ c κs. search needs)
     returns
     returns-2)

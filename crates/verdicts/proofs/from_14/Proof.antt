@@ -7,23 +7,8 @@ use borrow.Author.Needs.{needs}
 use Rattle.verdicts.proofs.from_14.Statement.{statement}
 use Rattle.verdicts.proofs.from_14.Tie as tie
 
-least-stray-requires : tie.Need-least-stray-requires
-least-stray-requires c κs = search needs
-
-enum-known-t : tie.Need-enum-known-t
-enum-known-t c = search needs
-
 target-in-requires : tie.Need-target-in-requires
 target-in-requires c κs = target-below _ Addresses (sym (c .before .t .given .1) ∙ c .before .before .before .least-stray .ensures)
-
-stray-at-requires : tie.Need-stray-at-requires
-stray-at-requires c κs = search needs
-
-enum-told : tie.Need-enum-told
-enum-told c = search needs
-
-from-15-requires : tie.Need-from-15-requires
-from-15-requires c κs = search needs
 
 returns : tie.Need-returns
 unfolding from14
@@ -37,11 +22,11 @@ pub from-14-spec : {M : Type 1} → statement M
 from-14-spec =
     tie.close
     (tie.spec
-    least-stray-requires
-    enum-known-t
+    (λ c κs. search needs)
+    (λ c. search needs)
     target-in-requires
-    stray-at-requires
-    enum-told
-    from-15-requires
+    (λ c κs. search needs)
+    (λ c. search needs)
+    (λ c κs. search needs)
     returns
     returns-2)

@@ -9,15 +9,6 @@ use borrow.Author.Needs.{needs}
 use Rattle.verdicts.proofs.from_15.Statement.{statement}
 use Rattle.verdicts.proofs.from_15.Tie as tie
 
-lowest-requires : tie.Need-lowest-requires
-lowest-requires c κs = search needs
-
-enum-known-p : tie.Need-enum-known-p
-enum-known-p c = search needs
-
-enum-told : tie.Need-enum-told
-enum-told c = search needs
-
 returns : tie.Need-returns
 unfolding from15
 returns c = lost-found (firstIn (ownIdLost (chassisOf (c .before .before .before .before .before .args .s .now))) 0 (countOf (c .before .before .before .before .before .args .s .now))) _ (sym (c .before .p .given .1) ∙ c .before .before .before .lowest .ensures)
@@ -27,4 +18,4 @@ unfolding from15
 returns-2 c = lost-none (firstIn (ownIdLost (chassisOf (c .before .before .before .before .args .s .now))) 0 (countOf (c .before .before .before .before .args .s .now))) (sym (c .enum-told .given .1) ∙ c .before .before .lowest .ensures)
 
 pub from-15-spec : {M : Type 1} → statement M
-from-15-spec = tie.close (tie.spec lowest-requires enum-known-p enum-told returns returns-2)
+from-15-spec = tie.close (tie.spec (λ c κs. search needs) (λ c. search needs) (λ c. search needs) returns returns-2)

@@ -8,23 +8,11 @@ use borrow.Author.Needs.{needs}
 use Rattle.verdicts.proofs.verdict.Statement.{statement}
 use Rattle.verdicts.proofs.verdict.Tie as tie
 
-least-shared-requires : tie.Need-least-shared-requires
-least-shared-requires c κs = search needs
-
-enum-known-t : tie.Need-enum-known-t
-enum-known-t c = search needs
-
 target-in-requires : tie.Need-target-in-requires
 target-in-requires c κs = target-below _ Ids (sym (c .before .t .given .1) ∙ c .before .before .before .least-shared .ensures)
 
 shared-at-requires : tie.Need-shared-at-requires
 shared-at-requires c κs = (c .before .before .before .before .before .before .pre, rw (c .target-in .ensures) (target-passes _ Ids (sym (c .before .before .t .given .1) ∙ c .before .before .before .before .least-shared .ensures)))
-
-enum-told : tie.Need-enum-told
-enum-told c = search needs
-
-from-12-requires : tie.Need-from-12-requires
-from-12-requires c κs = search needs
 
 returns : tie.Need-returns
 unfolding verdictOf from12 from13 from14 from15
@@ -38,11 +26,11 @@ pub verdict-spec : {M : Type 1} → statement M
 verdict-spec =
     tie.close
     (tie.spec
-    least-shared-requires
-    enum-known-t
+    (λ c κs. search needs)
+    (λ c. search needs)
     target-in-requires
     shared-at-requires
-    enum-told
-    from-12-requires
+    (λ c. search needs)
+    (λ c κs. search needs)
     returns
     returns-2)

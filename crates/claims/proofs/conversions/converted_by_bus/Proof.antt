@@ -3,18 +3,6 @@ use borrow.Author.Needs.{needs}
 use Rattle.claims.proofs.conversions.converted_by_bus.Statement.{statement}
 use Rattle.claims.proofs.conversions.converted_by_bus.Tie as tie
 
-bus-claims-requires : tie.Need-bus-claims-requires
-bus-claims-requires c κs = search needs
-
-bus-requires : tie.Need-bus-requires
-bus-requires c κs = search needs
-
-with-ari-requires : tie.Need-with-ari-requires
-with-ari-requires c κs = search needs
-
-device-requires : tie.Need-device-requires
-device-requires c κs = search needs
-
 returns : tie.Need-returns
 unfolding convertedByBus
 returns c = rw (← c .before .before .before .before .before .before .before .bus-claims .ensures, ← c .before .before .before .before .before .before .bus .ensures, c .before .before .before .before .if1 .taken, ← c .before .before .with-ari .ensures, ← c .before .device .ensures, c .if2 .taken)
@@ -31,10 +19,10 @@ pub converted-by-bus-spec : {M : Type 1} → statement M
 converted-by-bus-spec =
     tie.close
     (tie.spec
-    bus-claims-requires
-    bus-requires
-    with-ari-requires
-    device-requires
+    (λ c κs. search needs)
+    (λ c κs. search needs)
+    (λ c κs. search needs)
+    (λ c κs. search needs)
     returns
     returns-2
     returns-3)

@@ -5,30 +5,9 @@ use borrow.Author.Needs.{needs}
 use Rattle.claims.proofs.conversions.in_secondary_range.Statement.{statement}
 use Rattle.claims.proofs.conversions.in_secondary_range.Tie as tie
 
-secondary-start-requires : tie.Need-secondary-start-requires
-secondary-start-requires c κs = search needs
-
-unit-requires : tie.Need-unit-requires
-unit-requires c κs = search needs
-
-secondary-units-requires : tie.Need-secondary-units-requires
-secondary-units-requires c κs = search needs
-
-add-result : tie.Need-add-result
-add-result c = search needs
-
 returns : tie.Need-returns
 unfolding inSecondaryRange
 returns c = rw (c .before .before .before .before .before .if1 .taken, c .before .before .secondary-units .ensures .0, c .before .before .before .before .before .before .before .before .secondary-start .ensures .0, c .before .before .before .before .before .before .before .unit .ensures, last-unit)
-
-with-ari-requires : tie.Need-with-ari-requires
-with-ari-requires c κs = search needs
-
-bus-requires : tie.Need-bus-requires
-bus-requires c κs = search needs
-
-cast-result : tie.Need-cast-result
-cast-result c = search needs
 
 returns-2 : tie.Need-returns-2
 unfolding inSecondaryRange
@@ -42,13 +21,13 @@ pub in-secondary-range-spec : {M : Type 1} → statement M
 in-secondary-range-spec =
     tie.close
     (tie.spec
-    secondary-start-requires
-    unit-requires
-    secondary-units-requires
-    add-result
+    (λ c κs. search needs)
+    (λ c κs. search needs)
+    (λ c κs. search needs)
+    (λ c. search needs)
     returns
-    with-ari-requires
-    bus-requires
-    cast-result
+    (λ c κs. search needs)
+    (λ c κs. search needs)
+    (λ c. search needs)
     returns-2
     returns-3)

@@ -3,12 +3,9 @@ use borrow.Author.Needs.{needs}
 use Rattle.claims.proofs.decoders.bus_claims.Statement.{statement}
 use Rattle.claims.proofs.decoders.bus_claims.Tie as tie
 
-bus-requires : tie.Need-bus-requires
-bus-requires c κs = search needs
-
 returns : tie.Need-returns
 unfolding busClaims
 returns c = rw (c .before .before .before .before .bus .ensures)
 
 pub bus-claims-spec : {M : Type 1} → statement M
-bus-claims-spec = tie.close (tie.spec bus-requires returns)
+bus-claims-spec = tie.close (tie.spec (λ c κs. search needs) returns)

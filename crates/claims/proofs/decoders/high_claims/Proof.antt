@@ -3,12 +3,9 @@ use borrow.Author.Needs.{needs}
 use Rattle.claims.proofs.decoders.high_claims.Statement.{statement}
 use Rattle.claims.proofs.decoders.high_claims.Tie as tie
 
-vector-claims-requires : tie.Need-vector-claims-requires
-vector-claims-requires c κs = search needs
-
 returns : tie.Need-returns
 unfolding highClaims
 returns c = rw (c .vector-claims .ensures)
 
 pub high-claims-spec : {M : Type 1} → statement M
-high-claims-spec = tie.close (tie.spec vector-claims-requires returns)
+high-claims-spec = tie.close (tie.spec (λ c κs. search needs) returns)

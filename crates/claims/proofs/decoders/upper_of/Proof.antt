@@ -3,9 +3,6 @@ use borrow.Author.Needs.{needs}
 use Rattle.claims.proofs.decoders.upper_of.Statement.{statement}
 use Rattle.claims.proofs.decoders.upper_of.Tie as tie
 
-mul-result : tie.Need-mul-result
-mul-result c = search needs
-
 returns : tie.Need-returns
 returns c = (rw (c .if1 .taken), search needs)
 
@@ -13,4 +10,4 @@ returns-2 : tie.Need-returns-2
 returns-2 c = (simp (ne-eqb _ _ (c .if1 .left)), search needs)
 
 pub upper-of-spec : {M : Type 1} → statement M
-upper-of-spec = tie.close (tie.spec mul-result returns returns-2)
+upper-of-spec = tie.close (tie.spec (λ c. search needs) returns returns-2)

@@ -5,27 +5,9 @@ use borrow.Author.Needs.{needs}
 use Rattle.culprits.proofs.pairs.clashes.Statement.{statement}
 use Rattle.culprits.proofs.pairs.clashes.Tie as tie
 
-is-own-requires : tie.Need-is-own-requires
-is-own-requires c κs = search needs
-
-claims-requires : tie.Need-claims-requires
-claims-requires c κs = search needs
-
 returns : tie.Need-returns
 unfolding clash
 returns c = rw (eq-eqb _ _ (c .before .before .if1 .taken), c .before .is-own .ensures, c .claims .ensures)
-
-parent-at-requires : tie.Need-parent-at-requires
-parent-at-requires c κs = search needs
-
-parent-at-requires-2 : tie.Need-parent-at-requires-2
-parent-at-requires-2 c κs = search needs
-
-holds-requires : tie.Need-holds-requires
-holds-requires c κs = search needs
-
-holds-requires-2 : tie.Need-holds-requires-2
-holds-requires-2 c κs = search needs
 
 returns-2 : tie.Need-returns-2
 unfolding clash
@@ -39,12 +21,12 @@ pub clashes-spec : {M : Type 1} → statement M
 clashes-spec =
     tie.close
     (tie.spec
-    is-own-requires
-    claims-requires
+    (λ c κs. search needs)
+    (λ c κs. search needs)
     returns
-    parent-at-requires
-    parent-at-requires-2
-    holds-requires
-    holds-requires-2
+    (λ c κs. search needs)
+    (λ c κs. search needs)
+    (λ c κs. search needs)
+    (λ c κs. search needs)
     returns-2
     returns-3)

@@ -26,15 +26,6 @@ ports-holds c = none-empty (omega arith)
 loop-holds : tie.Need-loop-holds Inv-loop μ-loop Inv-ports μ-ports
 loop-holds c = (omega arith, none-empty (omega arith))
 
-clashes-requires : tie.Need-clashes-requires Inv-loop μ-loop Inv-ports μ-ports
-clashes-requires c κs = tt
-
-add-q : tie.Need-add-q Inv-loop μ-loop Inv-ports μ-ports
-add-q c = omega arith
-
-loop-less : tie.Need-loop-less Inv-loop μ-loop Inv-ports μ-ports
-loop-less c = omega arith
-
 loop-again : tie.Need-loop-again Inv-loop μ-loop Inv-ports μ-ports
 loop-again c = (omega arith, none-more (c .before .before .before .loop .inv .1) (sym (c .before .clashes .ensures) ∙ c .if1 .left))
 
@@ -60,9 +51,9 @@ first-pair-spec =
     μ-ports
     ports-holds
     loop-holds
-    clashes-requires
-    add-q
-    loop-less
+    (λ c κs. tt)
+    (λ c. omega arith)
+    (λ c. omega arith)
     loop-again
     add-p
     ports-less

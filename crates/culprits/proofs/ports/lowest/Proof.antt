@@ -17,17 +17,8 @@ abbrev μ-loop : tie.MeasureT-loop
 loop-holds : tie.Need-loop-holds Inv-loop μ-loop
 loop-holds c = (omega arith, none-empty (omega arith))
 
-has-fault-requires : tie.Need-has-fault-requires Inv-loop μ-loop
-has-fault-requires c κs = tt
-
 returns : tie.Need-returns Inv-loop μ-loop
 returns c = culprit-here _ _ _ (rw (c .before .before .before .before .before .pre) at (c .before .before .loop-test .taken)) (sym (c .before .has-fault .ensures) ∙ c .if1 .taken) (c .before .before .before .loop .inv .1)
-
-add-p : tie.Need-add-p Inv-loop μ-loop
-add-p c = omega arith
-
-loop-less : tie.Need-loop-less Inv-loop μ-loop
-loop-less c = omega arith
 
 loop-again : tie.Need-loop-again Inv-loop μ-loop
 loop-again c = (omega arith, none-more (c .before .before .before .loop .inv .1) (sym (c .before .has-fault .ensures) ∙ c .if1 .left))
@@ -42,9 +33,9 @@ lowest-spec =
     Inv-loop
     μ-loop
     loop-holds
-    has-fault-requires
+    (λ c κs. tt)
     returns
-    add-p
-    loop-less
+    (λ c. omega arith)
+    (λ c. omega arith)
     loop-again
     returns-2)

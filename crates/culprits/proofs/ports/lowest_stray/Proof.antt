@@ -8,15 +8,6 @@ use borrow.Author.Needs.{needs}
 use Rattle.culprits.proofs.ports.lowest_stray.Statement.{statement}
 use Rattle.culprits.proofs.ports.lowest_stray.Tie as tie
 
-lowest-requires : tie.Need-lowest-requires
-lowest-requires c κs = search needs
-
-enum-known-p : tie.Need-enum-known-p
-enum-known-p c = search needs
-
-enum-told : tie.Need-enum-told
-enum-told c = search needs
-
 returns : tie.Need-returns
 returns c = port-found (firstIn (straysAt (chassisOf (c .before .before .before .before .before .args .s .now)) (c .before .before .before .before .before .args .t)) 0 (countOf (c .before .before .before .before .before .args .s .now))) _ (sym (c .before .p .given .1) ∙ c .before .before .before .lowest .ensures)
 
@@ -24,4 +15,4 @@ returns-2 : tie.Need-returns-2
 returns-2 c = none-found (firstIn (straysAt (chassisOf (c .before .before .before .before .args .s .now)) (c .before .before .before .before .args .t)) 0 (countOf (c .before .before .before .before .args .s .now))) (sym (c .enum-told .given .1) ∙ c .before .before .lowest .ensures)
 
 pub lowest-stray-spec : {M : Type 1} → statement M
-lowest-stray-spec = tie.close (tie.spec lowest-requires enum-known-p enum-told returns returns-2)
+lowest-stray-spec = tie.close (tie.spec (λ c κs. search needs) (λ c. search needs) (λ c. search needs) returns returns-2)

@@ -9,22 +9,10 @@ use Rattle.fiswalend.proofs.check_call.fpb_check.Tie as tie
 returns : tie.Need-returns
 returns c = left-17 _ _ (omega arith)
 
-check-requires : tie.Need-check-requires
-check-requires c κs = search needs
-
-check-bytes-requires : tie.Need-check-bytes-requires
-check-bytes-requires c κs = search needs
-
-write-requires : tie.Need-write-requires
-write-requires c κs = omega arith
-
-same-length : tie.Need-same-length
-same-length c = search needs
-
 returns-2 : tie.Need-returns-2
 returns-2 c = left-40 _ _ (omega arith) (c .before .before .before .before .check-bytes .ensures ∙ ap checkBytes (c .before .before .before .before .before .check .ensures)) (c .before .before .write .ensures .0) (c .before .before .write .ensures .1)
 
 pub fpb-check-spec : {M : Type 1} → statement M
 fpb-check-spec =
     tie.close
-    (tie.spec returns check-requires check-bytes-requires write-requires same-length returns-2)
+    (tie.spec returns (λ c κs. search needs) (λ c κs. search needs) (λ c κs. omega arith) (λ c. search needs) returns-2)

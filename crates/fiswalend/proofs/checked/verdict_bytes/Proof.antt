@@ -3,54 +3,6 @@ use borrow.Author.Needs.{needs}
 use Rattle.fiswalend.proofs.checked.verdict_bytes.Statement.{statement}
 use Rattle.fiswalend.proofs.checked.verdict_bytes.Tie as tie
 
-enum-told : tie.Need-enum-told
-enum-told c = search needs
-
-found-head-requires : tie.Need-found-head-requires
-found-head-requires c κs = search needs
-
-without-places-requires : tie.Need-without-places-requires
-without-places-requires c κs = search needs
-
-enum-known-v : tie.Need-enum-known-v
-enum-known-v c = search needs
-
-by-target-requires : tie.Need-by-target-requires
-by-target-requires c κs = search needs
-
-found-head-requires-2 : tie.Need-found-head-requires-2
-found-head-requires-2 c κs = search needs
-
-target-number-requires : tie.Need-target-number-requires
-target-number-requires c κs = search needs
-
-with-target-requires : tie.Need-with-target-requires
-with-target-requires c κs = search needs
-
-enum-known-v-2 : tie.Need-enum-known-v-2
-enum-known-v-2 c = search needs
-
-by-target-requires-2 : tie.Need-by-target-requires-2
-by-target-requires-2 c κs = search needs
-
-found-head-requires-3 : tie.Need-found-head-requires-3
-found-head-requires-3 c κs = search needs
-
-target-number-requires-2 : tie.Need-target-number-requires-2
-target-number-requires-2 c κs = search needs
-
-with-target-requires-2 : tie.Need-with-target-requires-2
-with-target-requires-2 c κs = search needs
-
-enum-known-v-3 : tie.Need-enum-known-v-3
-enum-known-v-3 c = search needs
-
-found-head-requires-4 : tie.Need-found-head-requires-4
-found-head-requires-4 c κs = search needs
-
-without-places-requires-2 : tie.Need-without-places-requires-2
-without-places-requires-2 c κs = search needs
-
 returns : tie.Need-returns
 unfolding verdictBytes
 returns c = rw (c .before .before .enum-told .given .1, ← c .before .found-head .ensures) (c .without-places .ensures)
@@ -71,22 +23,22 @@ pub verdict-bytes-spec : {M : Type 1} → statement M
 verdict-bytes-spec =
     tie.close
     (tie.spec
-    enum-told
-    found-head-requires
-    without-places-requires
-    enum-known-v
-    by-target-requires
-    found-head-requires-2
-    target-number-requires
-    with-target-requires
-    enum-known-v-2
-    by-target-requires-2
-    found-head-requires-3
-    target-number-requires-2
-    with-target-requires-2
-    enum-known-v-3
-    found-head-requires-4
-    without-places-requires-2
+    (λ c. search needs)
+    (λ c κs. search needs)
+    (λ c κs. search needs)
+    (λ c. search needs)
+    (λ c κs. search needs)
+    (λ c κs. search needs)
+    (λ c κs. search needs)
+    (λ c κs. search needs)
+    (λ c. search needs)
+    (λ c κs. search needs)
+    (λ c κs. search needs)
+    (λ c κs. search needs)
+    (λ c κs. search needs)
+    (λ c. search needs)
+    (λ c κs. search needs)
+    (λ c κs. search needs)
     returns
     returns-2
     returns-3

@@ -8,17 +8,8 @@ use Rattle.fiswalend.proofs.walk_call.fpb_walk.Tie as tie
 returns : tie.Need-returns
 returns c = leaves-17 _ _ _ _ _ _ _ (omega arith) refl refl
 
-walk-requires : tie.Need-walk-requires
-walk-requires c κs = search needs
-
 walk-bytes-requires : tie.Need-walk-bytes-requires
 walk-bytes-requires c κs = omega (arith, crossings-few _ _ _ _ _ (c .walk .ensures))
-
-write-requires : tie.Need-write-requires
-write-requires c κs = omega arith
-
-same-length : tie.Need-same-length
-same-length c = search needs
 
 returns-2 : tie.Need-returns-2
 returns-2 c = leaves-40 _ _ _ _ _ _ _ _ _ (omega arith) (c .before .before .before .before .before .walk .ensures) (c .before .before .before .before .walk-bytes .ensures) (c .before .before .write .ensures .0) (c .before .before .write .ensures .1)
@@ -26,4 +17,4 @@ returns-2 c = leaves-40 _ _ _ _ _ _ _ _ _ (omega arith) (c .before .before .befo
 pub fpb-walk-spec : {M : Type 1} → statement M
 fpb-walk-spec =
     tie.close
-    (tie.spec returns walk-requires walk-bytes-requires write-requires same-length returns-2)
+    (tie.spec returns (λ c κs. search needs) walk-bytes-requires (λ c κs. omega arith) (λ c. search needs) returns-2)

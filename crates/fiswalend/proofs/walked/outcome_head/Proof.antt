@@ -3,18 +3,6 @@ use borrow.Author.Needs.{needs}
 use Rattle.fiswalend.proofs.walked.outcome_head.Statement.{statement}
 use Rattle.fiswalend.proofs.walked.outcome_head.Tie as tie
 
-enum-known-o : tie.Need-enum-known-o
-enum-known-o c = search needs
-
-refusal-head-requires : tie.Need-refusal-head-requires
-refusal-head-requires c κs = search needs
-
-enum-known-o-2 : tie.Need-enum-known-o-2
-enum-known-o-2 c = search needs
-
-end-head-requires : tie.Need-end-head-requires
-end-head-requires c κs = search needs
-
 returns : tie.Need-returns
 unfolding outcomeHead
 returns c = rw (c .before .before .o .given .1) (c .refusal-head .ensures)
@@ -27,9 +15,9 @@ pub outcome-head-spec : {M : Type 1} → statement M
 outcome-head-spec =
     tie.close
     (tie.spec
-    enum-known-o
-    refusal-head-requires
-    enum-known-o-2
-    end-head-requires
+    (λ c. search needs)
+    (λ c κs. search needs)
+    (λ c. search needs)
+    (λ c κs. search needs)
     returns
     returns-2)

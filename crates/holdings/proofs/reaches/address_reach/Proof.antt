@@ -4,18 +4,6 @@ use borrow.Author.Needs.{needs}
 use Rattle.holdings.proofs.reaches.address_reach.Statement.{statement}
 use Rattle.holdings.proofs.reaches.address_reach.Tie as tie
 
-memory-range-requires : tie.Need-memory-range-requires
-memory-range-requires c κs = search needs
-
-prefetchable-range-requires : tie.Need-prefetchable-range-requires
-prefetchable-range-requires c κs = search needs
-
-grid-if-requires : tie.Need-grid-if-requires
-grid-if-requires c κs = search needs
-
-grid-if-requires-2 : tie.Need-grid-if-requires-2
-grid-if-requires-2 c κs = search needs
-
 returns : tie.Need-returns
 unfolding addressReach
 returns c = (
@@ -27,8 +15,8 @@ pub address-reach-spec : {M : Type 1} → statement M
 address-reach-spec =
     tie.close
     (tie.spec
-    memory-range-requires
-    prefetchable-range-requires
-    grid-if-requires
-    grid-if-requires-2
+    (λ c κs. search needs)
+    (λ c κs. search needs)
+    (λ c κs. search needs)
+    (λ c κs. search needs)
     returns)

@@ -4,24 +4,6 @@ use borrow.Author.Needs.{needs}
 use Rattle.holdings.proofs.reaches.id_reach.Statement.{statement}
 use Rattle.holdings.proofs.reaches.id_reach.Tie as tie
 
-bus-range-requires : tie.Need-bus-range-requires
-bus-range-requires c κs = search needs
-
-cast-range-if : tie.Need-cast-range-if
-cast-range-if c = search needs
-
-cast-range-if-2 : tie.Need-cast-range-if-2
-cast-range-if-2 c = search needs
-
-range-if-requires : tie.Need-range-if-requires
-range-if-requires c κs = search needs
-
-grid-if-requires : tie.Need-grid-if-requires
-grid-if-requires c κs = search needs
-
-grid-if-requires-2 : tie.Need-grid-if-requires-2
-grid-if-requires-2 c κs = search needs
-
 returns : tie.Need-returns
 unfolding idReach
 returns c = (
@@ -33,10 +15,10 @@ pub id-reach-spec : {M : Type 1} → statement M
 id-reach-spec =
     tie.close
     (tie.spec
-    bus-range-requires
-    cast-range-if
-    cast-range-if-2
-    range-if-requires
-    grid-if-requires
-    grid-if-requires-2
+    (λ c κs. search needs)
+    (λ c. search needs)
+    (λ c. search needs)
+    (λ c κs. search needs)
+    (λ c κs. search needs)
+    (λ c κs. search needs)
     returns)

@@ -2,21 +2,6 @@ use borrow.Author.Needs.{needs}
 use Rattle.holdings.proofs.reaches.reach.Statement.{statement}
 use Rattle.holdings.proofs.reaches.reach.Tie as tie
 
-enum-told : tie.Need-enum-told
-enum-told c = search needs
-
-id-reach-requires : tie.Need-id-reach-requires
-id-reach-requires c κs = search needs
-
-enum-told-2 : tie.Need-enum-told-2
-enum-told-2 c = search needs
-
-memory-space-enabled-requires : tie.Need-memory-space-enabled-requires
-memory-space-enabled-requires c κs = search needs
-
-address-reach-requires : tie.Need-address-reach-requires
-address-reach-requires c κs = search needs
-
 returns : tie.Need-returns
 returns c = rw (c .before .enum-told .given .1) (c .id-reach .ensures)
 
@@ -27,10 +12,10 @@ pub reach-spec : {M : Type 1} → statement M
 reach-spec =
     tie.close
     (tie.spec
-    enum-told
-    id-reach-requires
-    enum-told-2
-    memory-space-enabled-requires
-    address-reach-requires
+    (λ c. search needs)
+    (λ c κs. search needs)
+    (λ c. search needs)
+    (λ c κs. search needs)
+    (λ c κs. search needs)
     returns
     returns-2)

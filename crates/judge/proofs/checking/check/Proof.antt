@@ -8,18 +8,6 @@ use borrow.Author.Needs.{needs}
 use Rattle.judge.proofs.checking.check.Statement.{statement}
 use Rattle.judge.proofs.checking.check.Tie as tie
 
-read-requires : tie.Need-read-requires
-read-requires c κs = search needs
-
-enum-known-got : tie.Need-enum-known-got
-enum-known-got c = search needs
-
-enum-told : tie.Need-enum-told
-enum-told c = search needs
-
-refusal-of-requires : tie.Need-refusal-of-requires
-refusal-of-requires c κs = search needs
-
 returns : tie.Need-returns
 unfolding checkOf
 returns c = rw (← c .before .before .before .read .ensures, c .before .enum-told .given .1) (ap Refused (c .refusal-of .ensures ∙ ap refusalOf (c .before .enum-told .given .1)))
@@ -38,10 +26,10 @@ pub check-spec : {M : Type 1} → statement M
 check-spec =
     tie.close
     (tie.spec
-    read-requires
-    enum-known-got
-    enum-told
-    refusal-of-requires
+    (λ c κs. search needs)
+    (λ c. search needs)
+    (λ c. search needs)
+    (λ c κs. search needs)
     returns
     cast-verdict
     verdict-requires

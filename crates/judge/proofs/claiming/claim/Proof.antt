@@ -8,27 +8,9 @@ use borrow.Author.Needs.{needs}
 use Rattle.judge.proofs.claiming.claim.Statement.{statement}
 use Rattle.judge.proofs.claiming.claim.Tie as tie
 
-read-requires : tie.Need-read-requires
-read-requires c κs = search needs
-
-enum-known-got : tie.Need-enum-known-got
-enum-known-got c = search needs
-
-enum-told : tie.Need-enum-told
-enum-told c = search needs
-
-refusal-of-requires : tie.Need-refusal-of-requires
-refusal-of-requires c κs = search needs
-
 returns : tie.Need-returns
 unfolding claimOf
 returns c = claim-numbered _ _ _ _ (rw (c .refusal-of .ensures, ← c .before .before .before .read .ensures, c .before .enum-told .given .1))
-
-cast-count : tie.Need-cast-count
-cast-count c = search needs
-
-number-16-requires : tie.Need-number-16-requires
-number-16-requires c κs = search needs
 
 returns-2 : tie.Need-returns-2
 unfolding claimOf
@@ -36,9 +18,6 @@ returns-2 c = claim-numbered _ _ _ _ (rw (c .number-16 .ensures, ← c .before .
 
 cast-t10 : tie.Need-cast-t10
 cast-t10 c = omega (arith, count-few _ _ (sym (c .before .before .before .before .before .read .ensures) ∙ c .before .before .before .got .given .1))
-
-claims-requires : tie.Need-claims-requires
-claims-requires c κs = search needs
 
 returns-3 : tie.Need-returns-3
 unfolding claimOf
@@ -48,14 +27,14 @@ pub claim-spec : {M : Type 1} → statement M
 claim-spec =
     tie.close
     (tie.spec
-    read-requires
-    enum-known-got
-    enum-told
-    refusal-of-requires
+    (λ c κs. search needs)
+    (λ c. search needs)
+    (λ c. search needs)
+    (λ c κs. search needs)
     returns
-    cast-count
-    number-16-requires
+    (λ c. search needs)
+    (λ c κs. search needs)
     returns-2
     cast-t10
-    claims-requires
+    (λ c κs. search needs)
     returns-3)

@@ -13,15 +13,9 @@ returns-2 : tie.Need-returns-2
 unfolding isStart isDevicePort
 returns-2 c = rw (ne-eqb _ _ (c .before .if1 .left), ← c .before .before .before .pre, le-ltb _ _ (c .if2 .taken))
 
-cast-t6 : tie.Need-cast-t6
-cast-t6 c = search needs
-
-is-device-port-requires : tie.Need-is-device-port-requires
-is-device-port-requires c κs = search needs
-
 returns-3 : tie.Need-returns-3
 unfolding isStart
 returns-3 c = rw (ne-eqb _ _ (c .before .before .if1 .left)) (c .is-device-port .ensures)
 
 pub is-start-spec : {M : Type 1} → statement M
-is-start-spec = tie.close (tie.spec returns returns-2 cast-t6 is-device-port-requires returns-3)
+is-start-spec = tie.close (tie.spec returns returns-2 (λ c. search needs) (λ c κs. search needs) returns-3)

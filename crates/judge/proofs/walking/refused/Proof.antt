@@ -3,12 +3,9 @@ use borrow.Author.Needs.{needs}
 use Rattle.judge.proofs.walking.refused.Statement.{statement}
 use Rattle.judge.proofs.walking.refused.Tie as tie
 
-new-requires : tie.Need-new-requires
-new-requires c κs = search needs
-
 returns : tie.Need-returns
 unfolding refusedWalk
 returns c = cc
 
 pub refused-spec : {M : Type 1} → statement M
-refused-spec = tie.close (tie.spec new-requires returns)
+refused-spec = tie.close (tie.spec (λ c κs. search needs) returns)

@@ -8,12 +8,9 @@ returns : tie.Need-returns
 unfolding comeTo
 returns c = rw (eq-eqb _ _ (c .if1 .taken))
 
-cast-t3 : tie.Need-cast-t3
-cast-t3 c = search needs
-
 returns-2 : tie.Need-returns-2
 unfolding comeTo
 returns-2 c = rw (ne-eqb _ _ (c .if1 .left))
 
 pub start-of-spec : {M : Type 1} → statement M
-start-of-spec = tie.close (tie.spec returns cast-t3 returns-2)
+start-of-spec = tie.close (tie.spec returns (λ c. search needs) returns-2)

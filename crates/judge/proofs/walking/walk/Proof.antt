@@ -8,21 +8,6 @@ use borrow.Author.Needs.{needs}
 use Rattle.judge.proofs.walking.walk.Statement.{statement}
 use Rattle.judge.proofs.walking.walk.Tie as tie
 
-read-requires : tie.Need-read-requires
-read-requires c κs = search needs
-
-enum-known-got : tie.Need-enum-known-got
-enum-known-got c = search needs
-
-enum-told : tie.Need-enum-told
-enum-told c = search needs
-
-refusal-of-requires : tie.Need-refusal-of-requires
-refusal-of-requires c κs = search needs
-
-refused-requires : tie.Need-refused-requires
-refused-requires c κs = search needs
-
 returns : tie.Need-returns
 returns c =
     gives-unread _ _ _ _ _ _ (sym (c .before .before .before .before .read .ensures) ∙ c .before .before .enum-told .given .1)
@@ -33,12 +18,6 @@ cast-n c = omega (arith, count-few _ _ (sym (c .before .before .before .before .
 
 asked-wrongly-requires : tie.Need-asked-wrongly-requires
 asked-wrongly-requires c κs = count-read _ _ (sym (c .before .before .before .before .read .ensures) ∙ c .before .before .got .given .1)
-
-number-16-requires : tie.Need-number-16-requires
-number-16-requires c κs = search needs
-
-refused-requires-2 : tie.Need-refused-requires-2
-refused-requires-2 c κs = search needs
 
 returns-2 : tie.Need-returns-2
 returns-2 c = gives-16 _ _ _ _ _ _ (sym (c .before .before .before .before .before .before .before .before .read .ensures) ∙ c .before .before .before .before .before .before .got .given .1) (sym (c .before .before .before .asked-wrongly .ensures) ∙ c .before .before .if1 .taken) (rw (← c .before .number-16 .ensures) (c .refused2 .ensures))
@@ -52,9 +31,6 @@ start-of-requires c κs = small-start _ _ (sym (c .before .before .before .befor
 walk-from-requires : tie.Need-walk-from-requires
 walk-from-requires c κs = (count-read _ _ (sym (c .before .before .before .before .before .before .before .before .read .ensures) ∙ c .before .before .before .before .before .before .got .given .1), (sane-read _ _ (sym (c .before .before .before .before .before .before .before .before .read .ensures) ∙ c .before .before .before .before .before .before .got .given .1), within-start _ _ (sym (c .before .before .before .before .before .before .before .before .read .ensures) ∙ c .before .before .before .before .before .before .got .given .1) _ _ _ (sym (c .before .before .before .asked-wrongly .ensures) ∙ c .before .before .if1 .left) (c .start-of .ensures)))
 
-ended-requires : tie.Need-ended-requires
-ended-requires c κs = search needs
-
 returns-3 : tie.Need-returns-3
 returns-3 c = gives-end _ _ _ _ _ _ (sym (c .before .before .before .before .before .before .before .before .before .before .read .ensures) ∙ c .before .before .before .before .before .before .before .before .got .given .1) _ (sym (c .before .before .before .before .before .asked-wrongly .ensures) ∙ c .before .before .before .before .if1 .left) (c .before .before .before .packet-of .ensures) (c .before .before .start-of .ensures) (c .before .walk-from .ensures) (c .ended .ensures)
 
@@ -62,19 +38,19 @@ pub walk-spec : {M : Type 1} → statement M
 walk-spec =
     tie.close
     (tie.spec
-    read-requires
-    enum-known-got
-    enum-told
-    refusal-of-requires
-    refused-requires
+    (λ c κs. search needs)
+    (λ c. search needs)
+    (λ c. search needs)
+    (λ c κs. search needs)
+    (λ c κs. search needs)
     returns
     cast-n
     asked-wrongly-requires
-    number-16-requires
-    refused-requires-2
+    (λ c κs. search needs)
+    (λ c κs. search needs)
     returns-2
     packet-of-requires
     start-of-requires
     walk-from-requires
-    ended-requires
+    (λ c κs. search needs)
     returns-3)

@@ -5,30 +5,6 @@ use borrow.Author.Needs.{needs}
 use Rattle.overlaps.proofs.meetings.least_meeting.Statement.{statement}
 use Rattle.overlaps.proofs.meetings.least_meeting.Tie as tie
 
-one-of-requires : tie.Need-one-of-requires
-one-of-requires c κs = search needs
-
-reach-at-requires : tie.Need-reach-at-requires
-reach-at-requires c κs = search needs
-
-vector-requires : tie.Need-vector-requires
-vector-requires c κs = search needs
-
-vector-requires-2 : tie.Need-vector-requires-2
-vector-requires-2 c κs = search needs
-
-reach-at-requires-2 : tie.Need-reach-at-requires-2
-reach-at-requires-2 c κs = search needs
-
-vector-requires-3 : tie.Need-vector-requires-3
-vector-requires-3 c κs = search needs
-
-vector-requires-4 : tie.Need-vector-requires-4
-vector-requires-4 c κs = search needs
-
-least-both-requires : tie.Need-least-both-requires
-least-both-requires c κs = search needs
-
 returns : tie.Need-returns
 returns c = rw (c .least-both .ensures, c .before .before .before .before .before .vector .ensures, c .before .before .before .before .vector2 .ensures, c .before .before .vector3 .ensures, c .before .vector4 .ensures, c .before .before .before .before .before .before .before .before .before .one-of .ensures) (ap (soonest (c .before .before .before .before .before .before .before .before .before .before .before .args .best)) (meets-first (c .before .before .before .before .before .before .before .before .before .before .before .args .s .now) (c .before .before .before .before .before .before .before .before .before .before .before .args .space) (c .before .before .before .before .before .before .before .before .before .before .before .args .a) (c .before .before .before .before .before .before .before .before .before .before .before .args .b) (c .before .before .before .before .before .before .before .before .before .before .before .args .want) (c .before .before .before .before .before .before .reach-at .ensures .0) (c .before .before .before .reach-at2 .ensures .0) (c .before .before .before .before .before .before .reach-at .ensures .1 .1)))
 
@@ -36,12 +12,12 @@ pub least-meeting-spec : {M : Type 1} → statement M
 least-meeting-spec =
     tie.close
     (tie.spec
-    one-of-requires
-    reach-at-requires
-    vector-requires
-    vector-requires-2
-    reach-at-requires-2
-    vector-requires-3
-    vector-requires-4
-    least-both-requires
+    (λ c κs. search needs)
+    (λ c κs. search needs)
+    (λ c κs. search needs)
+    (λ c κs. search needs)
+    (λ c κs. search needs)
+    (λ c κs. search needs)
+    (λ c κs. search needs)
+    (λ c κs. search needs)
     returns)

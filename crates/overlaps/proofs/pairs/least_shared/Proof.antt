@@ -20,12 +20,6 @@ loop-holds c = (omega arith, pairs-begin (chassisOf (c .before .args .s .now)) (
 with-port-requires : tie.Need-with-port-requires Inv-loop μ-loop
 with-port-requires c κs = (c .before .before .before .pre, (c .loop-test .taken, c .before .loop .inv .1))
 
-add-p : tie.Need-add-p Inv-loop μ-loop
-add-p c = omega arith
-
-loop-less : tie.Need-loop-less Inv-loop μ-loop
-loop-less c = omega arith
-
 loop-again : tie.Need-loop-again Inv-loop μ-loop
 loop-again c = (omega arith, c .with-port .ensures)
 
@@ -35,4 +29,4 @@ returns c = c .before .loop .inv .1 ∙ pairs-end (chassisOf (c .before .before 
 pub least-shared-spec : {M : Type 1} → statement M
 least-shared-spec =
     tie.close
-    (tie.spec Inv-loop μ-loop loop-holds with-port-requires add-p loop-less loop-again returns)
+    (tie.spec Inv-loop μ-loop loop-holds with-port-requires (λ c. omega arith) (λ c. omega arith) loop-again returns)

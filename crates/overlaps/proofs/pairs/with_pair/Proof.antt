@@ -6,15 +6,6 @@ use borrow.Author.Needs.{needs}
 use Rattle.overlaps.proofs.pairs.with_pair.Statement.{statement}
 use Rattle.overlaps.proofs.pairs.with_pair.Tie as tie
 
-parent-at-requires : tie.Need-parent-at-requires
-parent-at-requires c κs = search needs
-
-parent-at-requires-2 : tie.Need-parent-at-requires-2
-parent-at-requires-2 c κs = search needs
-
-least-meeting-requires : tie.Need-least-meeting-requires
-least-meeting-requires c κs = search needs
-
 returns : tie.Need-returns
 returns c = c .least-meeting .ensures ∙ ap (soonest (c .before .before .before .before .before .before .before .before .before .args .best)) (pair-first (chassisOf (c .before .before .before .before .before .before .before .before .before .args .s .now)) (c .before .before .before .before .before .before .before .before .before .args .space) (c .before .before .before .before .before .before .before .before .before .args .p .0) (c .before .before .before .before .before .before .before .before .before .args .q .0) (sym (c .before .before .before .before .before .before .before .parent-at .ensures) ∙ c .before .before .before .if1 .taken ∙ c .before .before .before .before .before .before .parent-at2 .ensures))
 
@@ -24,4 +15,4 @@ returns-2 c = no-pair (chassisOf (c .before .before .before .before .before .bef
 pub with-pair-spec : {M : Type 1} → statement M
 with-pair-spec =
     tie.close
-    (tie.spec parent-at-requires parent-at-requires-2 least-meeting-requires returns returns-2)
+    (tie.spec (λ c κs. search needs) (λ c κs. search needs) (λ c κs. search needs) returns returns-2)

@@ -16,15 +16,6 @@ abbrev μ-loop : tie.MeasureT-loop
 loop-holds : tie.Need-loop-holds Inv-loop μ-loop
 loop-holds c = (omega arith, c .before .pre .1 .1 ∙ row-begins (chassisOf (c .before .args .s .now)) (c .before .args .space) (c .before .args .p) (rw (c .before .pre .0) at (c .before .pre .1 .0)))
 
-with-pair-requires : tie.Need-with-pair-requires Inv-loop μ-loop
-with-pair-requires c κs = tt
-
-add-q : tie.Need-add-q Inv-loop μ-loop
-add-q c = omega arith
-
-loop-less : tie.Need-loop-less Inv-loop μ-loop
-loop-less c = omega arith
-
 loop-again : tie.Need-loop-again Inv-loop μ-loop
 loop-again c = (omega arith, c .with-pair .ensures ∙ rw (c .before .before .loop .inv .1) (row-more (chassisOf (c .before .before .before .before .args .s .now)) (c .before .before .before .before .args .space) (c .before .before .before .before .args .p) (c .before .before .loop .q)))
 
@@ -34,4 +25,4 @@ returns c = c .before .loop .inv .1 ∙ row-ends (chassisOf (c .before .before .
 pub with-port-spec : {M : Type 1} → statement M
 with-port-spec =
     tie.close
-    (tie.spec Inv-loop μ-loop loop-holds with-pair-requires add-q loop-less loop-again returns)
+    (tie.spec Inv-loop μ-loop loop-holds (λ c κs. tt) (λ c. omega arith) (λ c. omega arith) loop-again returns)

@@ -16,15 +16,6 @@ abbrev μ-loop : tie.MeasureT-loop
 loop-holds : tie.Need-loop-holds Inv-loop μ-loop
 loop-holds c = (omega arith, ports-begin (chassisOf (c .before .args .s .now)) (c .before .args .space))
 
-with-child-requires : tie.Need-with-child-requires Inv-loop μ-loop
-with-child-requires c κs = tt
-
-add-p : tie.Need-add-p Inv-loop μ-loop
-add-p c = omega arith
-
-loop-less : tie.Need-loop-less Inv-loop μ-loop
-loop-less c = omega arith
-
 loop-again : tie.Need-loop-again Inv-loop μ-loop
 loop-again c = (omega arith, c .with-child .ensures ∙ rw (c .before .before .loop .inv .1) (ports-more (chassisOf (c .before .before .before .before .args .s .now)) (c .before .before .before .before .args .space) (c .before .before .loop .p)))
 
@@ -34,4 +25,4 @@ returns c = c .before .loop .inv .1 ∙ ports-end (chassisOf (c .before .before 
 pub least-stray-spec : {M : Type 1} → statement M
 least-stray-spec =
     tie.close
-    (tie.spec Inv-loop μ-loop loop-holds with-child-requires add-p loop-less loop-again returns)
+    (tie.spec Inv-loop μ-loop loop-holds (λ c κs. tt) (λ c. omega arith) (λ c. omega arith) loop-again returns)

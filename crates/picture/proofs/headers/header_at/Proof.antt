@@ -3,21 +3,6 @@ use borrow.Author.Needs.{needs}
 use Rattle.picture.proofs.headers.header_at.Statement.{statement}
 use Rattle.picture.proofs.headers.header_at.Tie as tie
 
-u16-at-requires : tie.Need-u16-at-requires
-u16-at-requires c κs = search needs
-
-u16-at-requires-2 : tie.Need-u16-at-requires-2
-u16-at-requires-2 c κs = search needs
-
-u32-at-requires : tie.Need-u32-at-requires
-u32-at-requires c κs = search needs
-
-u32-at-requires-2 : tie.Need-u32-at-requires-2
-u32-at-requires-2 c κs = search needs
-
-u32-at-requires-3 : tie.Need-u32-at-requires-3
-u32-at-requires-3 c κs = search needs
-
 returns : tie.Need-returns
 unfolding headerOf
 returns c =
@@ -34,9 +19,9 @@ pub header-at-spec : {M : Type 1} → statement M
 header-at-spec =
     tie.close
     (tie.spec
-    u16-at-requires
-    u16-at-requires-2
-    u32-at-requires
-    u32-at-requires-2
-    u32-at-requires-3
+    (λ c κs. search needs)
+    (λ c κs. search needs)
+    (λ c κs. search needs)
+    (λ c κs. search needs)
+    (λ c κs. search needs)
     returns)

@@ -4,12 +4,9 @@ use borrow.Author.Needs.{needs}
 use Rattle.picture.proofs.headers.total_wrong.Statement.{statement}
 use Rattle.picture.proofs.headers.total_wrong.Tie as tie
 
-cast-result : tie.Need-cast-result
-cast-result c = search needs
-
 returns : tie.Need-returns
 unfolding totalWrong
 returns c = refl
 
 pub total-wrong-spec : {M : Type 1} → statement M
-total-wrong-spec = tie.close (tie.spec cast-result returns)
+total-wrong-spec = tie.close (tie.spec (λ c. search needs) returns)

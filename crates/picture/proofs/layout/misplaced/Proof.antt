@@ -1,55 +1,34 @@
 use Rattle.picture.proofs.Laws.{place-wrong, place-kept, misplaced-here, misplaced-end, misplaced-nowhere}
 use native.Mathlib.Numerals.{add-one}
 use native.Mathlib.Nat.{le-antisymm}
-use mathlib.Core.Path.{_∙_}
+use mathlib.Core.Path.{_∙_, ap}
+use Rattle.registers.specs.Record.{recordAt}
 use Rattle.picture.specs.Layout.{runningOffset, placeWrong}
 use Rattle.least.proofs.Laws.{NoneIn, none-empty, none-more}
 use native.Mathlib.Omega.{arith}
 use mathlib.Core.Path.{_≡_}
-use Prim.Native.Nat.{_≤_, _-_, _+_, _*_}
+use Prim.Native.Nat.{_≤_, _-_, _+_, _*_, _^_}
 use Rattle.picture.proofs.layout.misplaced.Statement.{statement}
 use Rattle.picture.proofs.layout.misplaced.Tie as tie
 
 abbrev Inv-loop : tie.InvT-loop
 Inv-loop s n offset₀ p₀ offset p =
-    (p ≤ n) × (offset ≡ runningOffset s p) × (offset ≤ 16 + 56 * n + 12288 * p) × NoneIn (placeWrong s) 0 p
+    (p ≤ n) × (offset ≡ runningOffset s p) × (offset ≤ 2 ^ 22 + 12288 * p) × NoneIn (placeWrong s) 0 p
 
 abbrev μ-loop : tie.MeasureT-loop
 μ-loop s n offset₀ p₀ offset p = n - p
 
-mul-offset : tie.Need-mul-offset Inv-loop μ-loop
-mul-offset c = omega arith
-
-add-offset : tie.Need-add-offset Inv-loop μ-loop
-add-offset c = omega arith
-
 loop-holds : tie.Need-loop-holds Inv-loop μ-loop
 unfolding runningOffset
-loop-holds c = (omega arith, rw (c .before .pre), omega arith, none-empty (omega arith))
-
-port-at-requires : tie.Need-port-at-requires Inv-loop μ-loop
-port-at-requires c κs = tt
+loop-holds c = (omega arith, c .record-at .ensures .0 ∙ ap recordAt (c .before .before .pre), omega arith, none-empty (omega arith))
 
 cast-if1 : tie.Need-cast-if1 Inv-loop μ-loop
 cast-if1 c = omega (arith, c .struct-known .given)
 
 returns : tie.Need-returns Inv-loop μ-loop
 returns c =
-    misplaced-here _ _ (rw (← c .before .before .before .before .before .before .pre) (c .before .before .before .loop-test .taken))
-    (place-wrong _ _ _ _ (c .before .before .port-at .ensures) (c .before .before .before .before .loop .inv .1) (c .if1 .taken))
-    (c .before .before .before .before .loop .inv .3)
-
-all-bytes-requires : tie.Need-all-bytes-requires Inv-loop μ-loop
-all-bytes-requires c κs = tt
-
-add-offset-2 : tie.Need-add-offset-2 Inv-loop μ-loop
-add-offset-2 c = omega arith
-
-add-p : tie.Need-add-p Inv-loop μ-loop
-add-p c = omega arith
-
-loop-less : tie.Need-loop-less Inv-loop μ-loop
-loop-less c = omega arith
+    misplaced-here _ _ (rw (← c .before .before .before .before .before .before .before .pre) (c .before .before .before .loop-test .taken))
+    (place-wrong _ _ _ _ (c .before .before .port-at .ensures) (c .before .before .before .before .loop .inv .1) (c .if1 .taken)) (c .before .before .before .before .loop .inv .3)
 
 loop-again : tie.Need-loop-again Inv-loop μ-loop
 unfolding runningOffset
@@ -57,19 +36,18 @@ loop-again c = (
   omega arith,
   rw (add-one, c .all-bytes .ensures .0, c .before .before .before .before .before .before .loop .inv .1, ← c .before .before .before .before .port-at .ensures),
   omega arith,
-  none-more (c .before .before .before .before .before .before .loop .inv .3)
-      (place-kept _ _ _ _ (c .before .before .before .before .port-at .ensures) (c .before .before .before .before .before .before .loop .inv .1) (c .before .before .if1 .left)),
+  none-more (c .before .before .before .before .before .before .loop .inv .3) (place-kept _ _ _ _ (c .before .before .before .before .port-at .ensures) (c .before .before .before .before .before .before .loop .inv .1) (c .before .before .if1 .left)),
 )
 
 returns-2 : tie.Need-returns-2 Inv-loop μ-loop
 returns-2 c =
-    misplaced-end _ _ _ (le-antisymm (c .before .before .loop .inv .0) (c .before .loop-test .left) ∙ c .before .before .before .before .pre)
-    (c .before .before .loop .inv .1) (c .before .before .loop .inv .3) (c .if2 .taken)
+    misplaced-end _ _ _ (le-antisymm (c .before .before .before .loop .inv .0) (c .before .before .loop-test .left) ∙ c .before .before .before .before .before .before .pre) (c .before .before .before .loop .inv .1)
+    (c .before .before .before .loop .inv .3) (c .before .if2 .taken)
 
 returns-3 : tie.Need-returns-3 Inv-loop μ-loop
 returns-3 c =
-    misplaced-nowhere _ _ _ (le-antisymm (c .before .before .loop .inv .0) (c .before .loop-test .left) ∙ c .before .before .before .before .pre)
-    (c .before .before .loop .inv .1) (c .before .before .loop .inv .3) (c .if2 .left)
+    misplaced-nowhere _ _ _ (le-antisymm (c .before .before .loop .inv .0) (c .before .loop-test .left) ∙ c .before .before .before .before .before .pre) (c .before .before .loop .inv .1)
+    (c .before .before .loop .inv .3) (c .if2 .left)
 
 pub misplaced-spec : {M : Type 1} → statement M
 misplaced-spec =
@@ -77,16 +55,17 @@ misplaced-spec =
     (tie.spec
     Inv-loop
     μ-loop
-    mul-offset
-    add-offset
+    (λ c κs. omega arith)
     loop-holds
-    port-at-requires
+    (λ c κs. tt)
     cast-if1
+    (λ c. omega arith)
     returns
-    all-bytes-requires
-    add-offset-2
-    add-p
-    loop-less
+    (λ c κs. tt)
+    (λ c. omega arith)
+    (λ c. omega arith)
+    (λ c. omega arith)
     loop-again
+    (λ c. omega arith)
     returns-2
     returns-3)

@@ -3,24 +3,6 @@ use borrow.Author.Needs.{needs}
 use Rattle.picture.proofs.layout.vector.Statement.{statement}
 use Rattle.picture.proofs.layout.vector.Tie as tie
 
-port-at-requires : tie.Need-port-at-requires
-port-at-requires c κs = search needs
-
-cast-at : tie.Need-cast-at
-cast-at c = search needs
-
-offset-in-requires : tie.Need-offset-in-requires
-offset-in-requires c κs = search needs
-
-add-at : tie.Need-add-at
-add-at c = search needs
-
-vector-bytes-requires : tie.Need-vector-bytes-requires
-vector-bytes-requires c κs = search needs
-
-part-requires : tie.Need-part-requires
-part-requires c κs = search needs
-
 returns : tie.Need-returns
 unfolding vectorOf
 returns c = rw (c .part .ensures, c .before .vector-bytes .ensures .0, c .before .before .offset-in .ensures .0, c .before .before .before .before .before .port-at .ensures)
@@ -29,10 +11,10 @@ pub vector-spec : {M : Type 1} → statement M
 vector-spec =
     tie.close
     (tie.spec
-    port-at-requires
-    cast-at
-    offset-in-requires
-    add-at
-    vector-bytes-requires
-    part-requires
+    (λ c κs. search needs)
+    (λ c. search needs)
+    (λ c κs. search needs)
+    (λ c. search needs)
+    (λ c κs. search needs)
+    (λ c κs. search needs)
     returns)

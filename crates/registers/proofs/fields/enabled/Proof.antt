@@ -2,11 +2,8 @@ use borrow.Author.Needs.{needs}
 use Rattle.registers.proofs.fields.enabled.Statement.{statement}
 use Rattle.registers.proofs.fields.enabled.Tie as tie
 
-control-requires : tie.Need-control-requires
-control-requires c κs = search needs
-
 returns : tie.Need-returns
 returns c = rw (c .control .ensures)
 
 pub enabled-spec : {M : Type 1} → statement M
-enabled-spec = tie.close (tie.spec control-requires returns)
+enabled-spec = tie.close (tie.spec (λ c κs. search needs) returns)

@@ -5,21 +5,6 @@ use native.Mathlib.Omega.{arith}
 use Rattle.registers.proofs.fields.settings.Statement.{statement}
 use Rattle.registers.proofs.fields.settings.Tie as tie
 
-size-requires : tie.Need-size-requires
-size-requires c κs = search needs
-
-start-requires : tie.Need-start-requires
-start-requires c κs = search needs
-
-unit-scale-requires : tie.Need-unit-scale-requires
-unit-scale-requires c κs = search needs
-
-granularity-code-requires : tie.Need-granularity-code-requires
-granularity-code-requires c κs = search needs
-
-add-t7 : tie.Need-add-t7
-add-t7 c = search needs
-
 returns : tie.Need-returns
 unfolding settingsOf
 returns c = (
@@ -36,9 +21,9 @@ pub settings-spec : {M : Type 1} → statement M
 settings-spec =
     tie.close
     (tie.spec
-    size-requires
-    start-requires
-    unit-scale-requires
-    granularity-code-requires
-    add-t7
+    (λ c κs. search needs)
+    (λ c κs. search needs)
+    (λ c κs. search needs)
+    (λ c κs. search needs)
+    (λ c. search needs)
     returns)

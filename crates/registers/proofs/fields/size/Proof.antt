@@ -6,15 +6,6 @@ use mathlib.Core.Path.{ap, _∙_}
 use Rattle.registers.proofs.fields.size.Statement.{statement}
 use Rattle.registers.proofs.fields.size.Tie as tie
 
-size-code-requires : tie.Need-size-code-requires
-size-code-requires c κs = search needs
-
-cast-result : tie.Need-cast-result
-cast-result c = search needs
-
-shl-result : tie.Need-shl-result
-shl-result c = search needs
-
 returns : tie.Need-returns
 returns c = (
   size-whole _ (c .size-code .ensures .1) ∙ ap (λ (code : ℕ). 256 * 2 ^ code) (c .size-code .ensures .0),
@@ -22,4 +13,4 @@ returns c = (
 )
 
 pub size-spec : {M : Type 1} → statement M
-size-spec = tie.close (tie.spec size-code-requires cast-result shl-result returns)
+size-spec = tie.close (tie.spec (λ c κs. search needs) (λ c. search needs) (λ c. search needs) returns)

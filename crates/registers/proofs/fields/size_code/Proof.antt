@@ -3,15 +3,6 @@ use native.Mathlib.Omega.{arith}
 use Rattle.registers.proofs.fields.size_code.Statement.{statement}
 use Rattle.registers.proofs.fields.size_code.Tie as tie
 
-enum-told : tie.Need-enum-told
-enum-told c = search needs
-
-enum-told-2 : tie.Need-enum-told-2
-enum-told-2 c = search needs
-
-enum-told-3 : tie.Need-enum-told-3
-enum-told-3 c = search needs
-
 returns : tie.Need-returns
 returns c = (rw (c .before .enum-told .given .1), omega arith)
 
@@ -22,4 +13,4 @@ returns-3 : tie.Need-returns-3
 returns-3 c = (rw (c .before .enum-told3 .given .1), omega arith)
 
 pub size-code-spec : {M : Type 1} → statement M
-size-code-spec = tie.close (tie.spec enum-told enum-told-2 enum-told-3 returns returns-2 returns-3)
+size-code-spec = tie.close (tie.spec (λ c. search needs) (λ c. search needs) (λ c. search needs) returns returns-2 returns-3)

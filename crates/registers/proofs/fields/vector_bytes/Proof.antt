@@ -4,12 +4,6 @@ use Rattle.registers.specs.Vectors.{vectorBytes}
 use Rattle.registers.proofs.fields.vector_bytes.Statement.{statement}
 use Rattle.registers.proofs.fields.vector_bytes.Tie as tie
 
-supported-requires : tie.Need-supported-requires
-supported-requires c κs = search needs
-
-size-requires : tie.Need-size-requires
-size-requires c κs = search needs
-
 returns : tie.Need-returns
 unfolding vectorBytes
 returns c = (rw (← c .before .before .supported .ensures, c .before .if1 .taken, c .size .ensures .0), omega arith)
@@ -19,4 +13,4 @@ unfolding vectorBytes
 returns-2 c = (rw (← c .before .supported .ensures, c .if1 .left), omega arith)
 
 pub vector-bytes-spec : {M : Type 1} → statement M
-vector-bytes-spec = tie.close (tie.spec supported-requires size-requires returns returns-2)
+vector-bytes-spec = tie.close (tie.spec (λ c κs. search needs) (λ c κs. search needs) returns returns-2)

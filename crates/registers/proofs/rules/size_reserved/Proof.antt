@@ -3,18 +3,6 @@ use Rattle.registers.specs.Rules.{sizeReserved}
 use Rattle.registers.proofs.rules.size_reserved.Statement.{statement}
 use Rattle.registers.proofs.rules.size_reserved.Tie as tie
 
-size-code-requires : tie.Need-size-code-requires
-size-code-requires c κs = search needs
-
-enum-told : tie.Need-enum-told
-enum-told c = search needs
-
-enum-told-2 : tie.Need-enum-told-2
-enum-told-2 c = search needs
-
-enum-told-3 : tie.Need-enum-told-3
-enum-told-3 c = search needs
-
 returns : tie.Need-returns
 unfolding sizeReserved
 returns c = rw (c .before .before .size-code .ensures .0, c .enum-told .given .1)
@@ -30,4 +18,4 @@ returns-3 c = rw (c .before .before .size-code .ensures .0, c .enum-told3 .given
 pub size-reserved-spec : {M : Type 1} → statement M
 size-reserved-spec =
     tie.close
-    (tie.spec size-code-requires enum-told enum-told-2 enum-told-3 returns returns-2 returns-3)
+    (tie.spec (λ c κs. search needs) (λ c. search needs) (λ c. search needs) (λ c. search needs) returns returns-2 returns-3)

@@ -10,57 +10,21 @@ Inv-loop word i₀ value₀ i value = Unit {0}
 abbrev μ-loop : tie.MeasureT-loop
 μ-loop word i₀ value₀ i value = length word - i
 
-after-0x-requires : tie.Need-after-0x-requires Inv-loop μ-loop
-after-0x-requires c κs = search needs
-
-returns : tie.Need-returns Inv-loop μ-loop
-returns c = search needs
-
-loop-holds : tie.Need-loop-holds Inv-loop μ-loop
-loop-holds c = search needs
-
-shared-slice-read-with-hexadecimal : tie.Need-shared-slice-read-with-hexadecimal Inv-loop μ-loop
-shared-slice-read-with-hexadecimal c = search needs
-
-with-hexadecimal-requires : tie.Need-with-hexadecimal-requires Inv-loop μ-loop
-with-hexadecimal-requires c κs = search needs
-
-enum-known-v : tie.Need-enum-known-v Inv-loop μ-loop
-enum-known-v c = search needs
-
-enum-told : tie.Need-enum-told Inv-loop μ-loop
-enum-told c = search needs
-
-returns-2 : tie.Need-returns-2 Inv-loop μ-loop
-returns-2 c = search needs
-
-add-i : tie.Need-add-i Inv-loop μ-loop
-add-i c = search needs
-
-loop-less : tie.Need-loop-less Inv-loop μ-loop
-loop-less c = search needs
-
-loop-again : tie.Need-loop-again Inv-loop μ-loop
-loop-again c = search needs
-
-returns-3 : tie.Need-returns-3 Inv-loop μ-loop
-returns-3 c = search needs
-
 pub hexadecimal-spec : {M : Type 1} → statement M
 hexadecimal-spec =
     tie.close
     (tie.spec
     Inv-loop
     μ-loop
-    after-0x-requires
-    returns
-    loop-holds
-    shared-slice-read-with-hexadecimal
-    with-hexadecimal-requires
-    enum-known-v
-    enum-told
-    returns-2
-    add-i
-    loop-less
-    loop-again
-    returns-3)
+    (λ c κs. search needs)
+    (λ c. search needs)
+    (λ c. search needs)
+    (λ c. search needs)
+    (λ c κs. search needs)
+    (λ c. search needs)
+    (λ c. search needs)
+    (λ c. search needs)
+    (λ c. search needs)
+    (λ c. search needs)
+    (λ c. search needs)
+    (λ c. search needs))

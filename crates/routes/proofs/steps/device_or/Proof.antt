@@ -3,9 +3,6 @@ use borrow.Author.Needs.{needs}
 use Rattle.routes.proofs.steps.device_or.Statement.{statement}
 use Rattle.routes.proofs.steps.device_or.Tie as tie
 
-is-device-port-requires : tie.Need-is-device-port-requires
-is-device-port-requires c κs = search needs
-
 returns : tie.Need-returns
 unfolding deviceOr
 returns c = rw (← c .before .is-device-port .ensures, c .if1 .taken)
@@ -15,4 +12,4 @@ unfolding deviceOr
 returns-2 c = rw (← c .before .is-device-port .ensures, c .if1 .left)
 
 pub device-or-spec : {M : Type 1} → statement M
-device-or-spec = tie.close (tie.spec is-device-port-requires returns returns-2)
+device-or-spec = tie.close (tie.spec (λ c κs. search needs) returns returns-2)

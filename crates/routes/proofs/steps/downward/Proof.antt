@@ -3,18 +3,6 @@ use borrow.Author.Needs.{needs}
 use Rattle.routes.proofs.steps.downward.Statement.{statement}
 use Rattle.routes.proofs.steps.downward.Tie as tie
 
-enum-told : tie.Need-enum-told
-enum-told c = search needs
-
-enum-known-packet : tie.Need-enum-known-packet
-enum-known-packet c = search needs
-
-conversion-requires : tie.Need-conversion-requires
-conversion-requires c κs = search needs
-
-decide-requires : tie.Need-decide-requires
-decide-requires c κs = search needs
-
 returns : tie.Need-returns
 unfolding downward
 returns c = rw (c .enum-told .given .1)
@@ -26,4 +14,4 @@ returns-2 c = rw (c .before .before .before .packet .given .1, ← c .before .co
 pub downward-spec : {M : Type 1} → statement M
 downward-spec =
     tie.close
-    (tie.spec enum-told enum-known-packet conversion-requires decide-requires returns returns-2)
+    (tie.spec (λ c. search needs) (λ c. search needs) (λ c κs. search needs) (λ c κs. search needs) returns returns-2)

@@ -3,42 +3,6 @@ use borrow.Author.Needs.{needs}
 use Rattle.routes.proofs.steps.step.Statement.{statement}
 use Rattle.routes.proofs.steps.step.Tie as tie
 
-enum-told : tie.Need-enum-told
-enum-told c = search needs
-
-at-root-requires : tie.Need-at-root-requires
-at-root-requires c κs = search needs
-
-enum-known-whereabouts : tie.Need-enum-known-whereabouts
-enum-known-whereabouts c = search needs
-
-from-above-requires : tie.Need-from-above-requires
-from-above-requires c κs = search needs
-
-enum-known-whereabouts-2 : tie.Need-enum-known-whereabouts-2
-enum-known-whereabouts-2 c = search needs
-
-from-below-requires : tie.Need-from-below-requires
-from-below-requires c κs = search needs
-
-enum-known-whereabouts-3 : tie.Need-enum-known-whereabouts-3
-enum-known-whereabouts-3 c = search needs
-
-target-of-requires : tie.Need-target-of-requires
-target-of-requires c κs = search needs
-
-under-type0-requires : tie.Need-under-type0-requires
-under-type0-requires c κs = search needs
-
-enum-known-whereabouts-4 : tie.Need-enum-known-whereabouts-4
-enum-known-whereabouts-4 c = search needs
-
-target-of-requires-2 : tie.Need-target-of-requires-2
-target-of-requires-2 c κs = search needs
-
-under-type1-requires : tie.Need-under-type1-requires
-under-type1-requires c κs = search needs
-
 returns : tie.Need-returns
 unfolding next
 returns c = rw (c .before .enum-told .given .1) (c .at-root .ensures)
@@ -63,18 +27,18 @@ pub step-spec : {M : Type 1} → statement M
 step-spec =
     tie.close
     (tie.spec
-    enum-told
-    at-root-requires
-    enum-known-whereabouts
-    from-above-requires
-    enum-known-whereabouts-2
-    from-below-requires
-    enum-known-whereabouts-3
-    target-of-requires
-    under-type0-requires
-    enum-known-whereabouts-4
-    target-of-requires-2
-    under-type1-requires
+    (λ c. search needs)
+    (λ c κs. search needs)
+    (λ c. search needs)
+    (λ c κs. search needs)
+    (λ c. search needs)
+    (λ c κs. search needs)
+    (λ c. search needs)
+    (λ c κs. search needs)
+    (λ c κs. search needs)
+    (λ c. search needs)
+    (λ c κs. search needs)
+    (λ c κs. search needs)
     returns
     returns-2
     returns-3

@@ -3,24 +3,6 @@ use borrow.Author.Needs.{needs}
 use Rattle.routes.proofs.steps.under_type1.Statement.{statement}
 use Rattle.routes.proofs.steps.under_type1.Tie as tie
 
-lowest-at-requires : tie.Need-lowest-at-requires
-lowest-at-requires c κs = search needs
-
-enum-told : tie.Need-enum-told
-enum-told c = search needs
-
-enum-known-p : tie.Need-enum-known-p
-enum-known-p c = search needs
-
-conversion-requires : tie.Need-conversion-requires
-conversion-requires c κs = search needs
-
-decide-requires : tie.Need-decide-requires
-decide-requires c κs = search needs
-
-enum-known-p-2 : tie.Need-enum-known-p-2
-enum-known-p-2 c = search needs
-
 returns : tie.Need-returns
 unfolding underType1 byHolders
 returns c = rw (← c .before .before .lowest-at .ensures, c .enum-told .given .1)
@@ -37,12 +19,12 @@ pub under-type1-spec : {M : Type 1} → statement M
 under-type1-spec =
     tie.close
     (tie.spec
-    lowest-at-requires
-    enum-told
-    enum-known-p
-    conversion-requires
-    decide-requires
-    enum-known-p-2
+    (λ c κs. search needs)
+    (λ c. search needs)
+    (λ c. search needs)
+    (λ c κs. search needs)
+    (λ c κs. search needs)
+    (λ c. search needs)
     returns
     returns-2
     returns-3)

@@ -3,15 +3,6 @@ use borrow.Author.Needs.{needs}
 use Rattle.routes.proofs.steps.upward.Statement.{statement}
 use Rattle.routes.proofs.steps.upward.Tie as tie
 
-claims-requires : tie.Need-claims-requires
-claims-requires c κs = search needs
-
-parent-at-requires : tie.Need-parent-at-requires
-parent-at-requires c κs = search needs
-
-come-to-requires : tie.Need-come-to-requires
-come-to-requires c κs = search needs
-
 returns : tie.Need-returns
 unfolding upward
 returns c = rw (← c .before .claims .ensures, c .if1 .taken)
@@ -22,4 +13,4 @@ returns-2 c = rw (← c .before .before .before .claims .ensures, c .before .bef
 
 pub upward-spec : {M : Type 1} → statement M
 upward-spec =
-    tie.close (tie.spec claims-requires parent-at-requires come-to-requires returns returns-2)
+    tie.close (tie.spec (λ c κs. search needs) (λ c κs. search needs) (λ c κs. search needs) returns returns-2)

@@ -4,12 +4,6 @@ use Rattle.spans.specs.Grids.{clipped}
 use Rattle.spans.proofs.grids.clip.Statement.{statement}
 use Rattle.spans.proofs.grids.clip.Tie as tie
 
-enum-known-found : tie.Need-enum-known-found
-enum-known-found c = search needs
-
-enum-told : tie.Need-enum-told
-enum-told c = search needs
-
 returns : tie.Need-returns
 unfolding clipped
 returns c = rw (c .before .before .found .given .1) (simp (le-leb _ _ (c .if1 .taken)))
@@ -23,4 +17,4 @@ unfolding clipped
 returns-3 c = rw (c .enum-told .given .1)
 
 pub clip-spec : {M : Type 1} → statement M
-clip-spec = tie.close (tie.spec enum-known-found enum-told returns returns-2 returns-3)
+clip-spec = tie.close (tie.spec (λ c. search needs) (λ c. search needs) returns returns-2 returns-3)

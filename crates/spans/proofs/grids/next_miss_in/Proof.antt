@@ -4,22 +4,10 @@ use Rattle.spans.proofs.OfGrids.{miss-in, miss-in-out}
 use Rattle.spans.proofs.grids.next_miss_in.Statement.{statement}
 use Rattle.spans.proofs.grids.next_miss_in.Tie as tie
 
-next-out-requires : tie.Need-next-out-requires
-next-out-requires c κs = search needs
-
-is-by-requires : tie.Need-is-by-requires
-is-by-requires c κs = search needs
-
 returns : tie.Need-returns
 returns c =
     let out = c .before .before .next-out .ensures in
     out ∙ miss-in-out _ _ _ (rw out at (sym (c .before .is-by .ensures) ∙ c .if1 .taken))
-
-next-miss-requires : tie.Need-next-miss-requires
-next-miss-requires c κs = search needs
-
-sooner-requires : tie.Need-sooner-requires
-sooner-requires c κs = search needs
 
 returns-2 : tie.Need-returns-2
 returns-2 c = rw (c .sooner .ensures, c .before .next-miss .ensures, c .before .before .before .before .next-out .ensures) (miss-in _ _ _)
@@ -28,9 +16,9 @@ pub next-miss-in-spec : {M : Type 1} → statement M
 next-miss-in-spec =
     tie.close
     (tie.spec
-    next-out-requires
-    is-by-requires
+    (λ c κs. search needs)
+    (λ c κs. search needs)
     returns
-    next-miss-requires
-    sooner-requires
+    (λ c κs. search needs)
+    (λ c κs. search needs)
     returns-2)

@@ -13,11 +13,8 @@ returns-2 c = out-already _ _ (omega arith) (omega arith)
 returns-3 : tie.Need-returns-3
 returns-3 c = out-never _ _ (omega arith) (omega arith)
 
-add-t4 : tie.Need-add-t4
-add-t4 c = search needs
-
 returns-4 : tie.Need-returns-4
 returns-4 c = out-next _ _ (omega arith) (omega arith) (omega arith)
 
 pub next-out-spec : {M : Type 1} → statement M
-next-out-spec = tie.close (tie.spec returns returns-2 returns-3 add-t4 returns-4)
+next-out-spec = tie.close (tie.spec returns returns-2 returns-3 (λ c. search needs) returns-4)

@@ -1,0 +1,12 @@
+use Rattle.registers.specs.Record.{portAt}
+use borrow.Author.Needs.{needs}
+use Rattle.registers.proofs.records.own_id_at.Statement.{statement}
+use Rattle.registers.proofs.records.own_id_at.Tie as tie
+
+returns : tie.Need-returns
+unfolding portAt
+returns c = rw (← c .before .record-at .ensures .0) (c .u16-at .ensures)
+
+pub own-id-at-spec : {M : Type 1} → statement M
+own-id-at-spec =
+    tie.close (tie.spec (λ c. search needs) (λ c κs. search needs) (λ c. search needs) (λ c κs. search needs) returns)

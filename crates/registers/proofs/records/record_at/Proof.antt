@@ -1,0 +1,12 @@
+use mathlib.Core.Path.{refl}
+use Rattle.registers.specs.Record.{recordAt}
+use borrow.Author.Needs.{needs}
+use Rattle.registers.proofs.records.record_at.Statement.{statement}
+use Rattle.registers.proofs.records.record_at.Tie as tie
+
+returns : tie.Need-returns
+unfolding recordAt
+returns c = (refl, search needs)
+
+pub record-at-spec : {M : Type 1} → statement M
+record-at-spec = tie.close (tie.spec (λ c. search needs) (λ c. search needs) returns)
