@@ -1,10 +1,17 @@
-// What the programs print, as text: built up piece by piece, so that it is written at once and can be compared.
-mod parts;
+// What the programs print: each text is a function of the answer, built up piece by piece and written at once.
 mod report;
 mod walks;
 
+use ids::PortNo;
+pub use report::refused_text;
 pub use report::report_text;
 pub use walks::walk_text;
+ghost use mathlib.Core.Path.{_≡_};
+ghost use mathlib.Core.List.{[], _∷_};
+ghost use Prim.Native.Nat.{_^_, _≤_, _<_};
+ghost use Rattle.io.specs.Digits.{digits};
+ghost use Rattle.texts.specs.Texts.{textOf, appended, decimal};
+ghost use Rattle.texts.specs.Lines.{spaced};
 
 // At most 192 bytes; what does not fit is left out.
 pub struct Text {
@@ -12,48 +19,75 @@ pub struct Text {
     pub length: usize,
 }
 
-// Puts a byte at a place, and answers the place behind it.
-fn put(bytes: &mut [u8; 192], at: usize, b: u8) -> usize {
-    if at < 192 {
-        bytes[at] = b;
-        return at + 1;
-    }
-    at
-}
-
 impl Text {
     // No text yet.
-    pub fn new() -> Text {
+    pub fn new() -> Text
+        ensures { λ r. ⌜ r ≡ textOf [] ⌝ }
+    {
         Text {
             bytes: [0; 192],
             length: 0,
         }
     }
 
+    // The text with a byte behind it, where there is room.
+    fn with_byte(mut self, b: u8) -> Text
+        ensures { λ r. ⌜ r ≡ appended self (b ∷ []) ⌝ }
+    {
+        let at = self.length;
+        if at < 192 {
+            self.bytes[at] = b;
+            self.length = at + 1;
+        }
+        self
+    }
+
     // The text with more behind it.
-    pub fn with(self, more: &[u8]) -> Text {
-        let mut bytes = self.bytes;
-        let mut at = self.length;
+    pub fn with(self, more: &[u8]) -> Text
+        ensures { λ r. ⌜ r ≡ appended self (now (more .entry)) ⌝ }
+    {
+        let mut text = self;
         let mut i = 0;
         while i < more.len() {
-            at = put(&mut bytes, at, more[i]);
+            text = text.with_byte(more[i]);
             i += 1;
         }
-        Text { bytes, length: at }
+        text
     }
 
     // The text with a decimal number behind it.
-    pub fn with_decimal(self, n: u64) -> Text {
+    pub fn with_decimal(self, n: u64) -> Text
+        ensures { λ r. ⌜ r ≡ appended self (decimal n) ⌝ }
+    {
         let mut digits = [0u8; 20];
         let k = io::decimal(n, &mut digits);
         self.with(&digits[..k])
     }
 
-    // The text with a hexadecimal number of at least so many digits behind it.
-    pub fn with_hex(self, n: u64, width: usize) -> Text {
+    // The text with a hexadecimal number behind it, in so many digits.
+    fn with_hex(self, n: u64, width: usize) -> Text
+        requires { ⌜ 0 < width ⌝ }
+        requires { ⌜ width ≤ 16 ⌝ }
+        requires { ⌜ n < 16 ^ width ⌝ }
+        ensures { λ r. ⌜ r ≡ appended self (digits 16 width n) ⌝ }
+    {
         let mut digits = [0u8; 16];
         let k = io::hex(n, width, &mut digits);
         self.with(&digits[..k])
+    }
+
+    // The text with a number after a space.
+    fn with_number(self, n: u64) -> Text
+        ensures { λ r. ⌜ r ≡ appended self (spaced n) ⌝ }
+    {
+        self.with(b" ").with_decimal(n)
+    }
+
+    // The text with a port's number after a space.
+    fn with_port(self, p: PortNo) -> Text
+        ensures { λ r. ⌜ r ≡ appended self (spaced (p .0)) ⌝ }
+    {
+        self.with_number(p.0 as u64)
     }
 
     // Writes the text to standard output.

@@ -1,52 +1,54 @@
-// The lines of the report: two for a picture that passes, one for a refusal; `end` stands behind a line that another follows.
+// The lines of the report: two for a picture that passes, one for a refusal.
 use crate::Text;
-use crate::parts::of_refusal;
-use crate::parts::with_port;
-use chassis::Verdict;
+use chassis::Finding;
+use chassis::Holders;
+use chassis::Shown;
 use ids::Target;
-use judge::CheckAnswer;
+ghost use mathlib.Core.Path.{_≡_};
+ghost use Rattle.texts.specs.Texts.{textOf, appended};
+ghost use Rattle.texts.specs.Lines.{targetWords, portsWords, refusedLine, reportLines};
 
-// `refused K`, the first number for an ID and the second for an address, and the target with 4 or 16 digits.
-fn of_target(of_id: u64, of_address: u64, t: Target) -> Text {
-    let text = Text::new().with(b"refused ");
-    match t {
-        Target::Id(rid) => {
-            text.with_decimal(of_id)
-                .with(b" id ")
-                .with_hex(rid.0 as u64, 4)
-                .with(b" ports")
-        }
-        Target::Addr(a) => {
-            text.with_decimal(of_address)
-                .with(b" addr ")
-                .with_hex(a, 16)
-                .with(b" ports")
-        }
+// The text with the target that a number shows.
+fn with_target(text: Text, shown: Shown) -> Text
+    ensures { λ r. ⌜ r ≡ appended text (targetWords shown) ⌝ }
+{
+    match shown {
+        Shown::NoTarget => text,
+        Shown::Least(t) => match t {
+            Target::Id(rid) => text.with(b" id ").with_hex(rid.0 as u64, 4),
+            Target::Addr(a) => text.with(b" addr ").with_hex(a, 16),
+        },
     }
 }
 
-// `ports N` and `clear`.
-fn of_clear(picture: &[u8], end: u8) -> Text {
-    let text = Text::new()
-        .with(b"ports ")
-        .with_decimal(lent::u16_at(picture, 2) as u64);
-    text.with(&[end]).with(b"clear")
-}
-
-// What the check of a picture that reads has found.
-fn of_verdict(picture: &[u8], verdict: Verdict, end: u8) -> Text {
-    match verdict {
-        Verdict::Clear => of_clear(picture, end),
-        Verdict::Shared(t, p, q) => with_port(with_port(of_target(11, 12, t), p), q),
-        Verdict::Stray(t, p) => with_port(of_target(13, 14, t), p),
-        Verdict::Lost(p) => with_port(Text::new().with(b"refused 15 ports"), p),
+// The text with the ports that a number names.
+fn with_ports(text: Text, ports: Holders) -> Text
+    ensures { λ r. ⌜ r ≡ appended text (portsWords ports) ⌝ }
+{
+    match ports {
+        Holders::Nobody => text,
+        Holders::Only(p) => text.with(b" ports").with_port(p),
+        Holders::Both(p, q) => text.with(b" ports").with_port(p).with_port(q),
     }
 }
 
-// What the report says of a picture that was checked.
-pub fn report_text(picture: &[u8], answer: CheckAnswer, end: u8) -> Text {
-    match answer {
-        CheckAnswer::Refused(r) => of_refusal(r),
-        CheckAnswer::Judged(v) => of_verdict(picture, v, end),
+// `refused K`, with the target and the ports where they are named.
+pub fn refused_text(f: Finding) -> Text
+    ensures { λ r. ⌜ r ≡ textOf (refusedLine f) ⌝ }
+{
+    let target = f.target;
+    let ports = f.ports;
+    let text = Text::new().with(b"refused").with_number(f.number as u64);
+    with_ports(with_target(text, target), ports)
+}
+
+// `ports N` and `clear` with the byte `end` between them, or the refusal.
+pub fn report_text(count: u16, f: Finding, end: u8) -> Text
+    ensures { λ r. ⌜ r ≡ textOf (reportLines count f end) ⌝ }
+{
+    if f.number == 0 {
+        let text = Text::new().with(b"ports").with_number(count as u64);
+        return text.with_byte(end).with(b"clear");
     }
+    refused_text(f)
 }

@@ -1,56 +1,63 @@
 // The lines of a walk: the end, and the ports crossed in order.
 use crate::Text;
-use crate::parts::of_refusal;
-use crate::parts::with_port;
 use chassis::End;
-use judge::Outcome;
-use judge::WalkAnswer;
+use ids::PortNo;
 use paths::Path;
+ghost use mathlib.Core.Path.{_≡_};
+ghost use mathlib.Core.Bool.{cond};
+ghost use mathlib.Core.List.{[], _++_};
+ghost use lib.ListN.{take};
+ghost use Rattle.texts.specs.Texts.{textOf, appended, ascii};
+ghost use Rattle.texts.specs.Lines.{spaced, eachSpaced, endLine, walkLines};
 
-// The device below a port, with the Function number of a configuration request.
-fn with_function(text: Text, config: bool, function: u8) -> Text {
+// The text with the Function number of a configuration request.
+fn with_function(text: Text, config: bool, function: u8) -> Text
+    ensures { λ r. ⌜ r ≡ appended text (cond config (ascii " function" ++ spaced function) []) ⌝ }
+{
     if config {
-        text.with(b" function ").with_decimal(function as u64)
-    } else {
-        text
+        return text.with(b" function").with_number(function as u64);
     }
+    text
 }
 
-fn of_end(end: End, config: bool) -> Text {
-    let text = Text::new().with(b"end ");
+// Where a packet ends; `config` tells a configuration request.
+fn end_text(config: bool, end: End) -> Text
+    ensures { λ r. ⌜ r ≡ textOf (endLine config end) ⌝ }
+{
+    let text = Text::new();
     match end {
         End::Device(p, function) => {
-            with_function(with_port(text.with(b"device port"), p), config, function)
+            with_function(text.with(b"end device port").with_port(p), config, function)
         }
-        End::Function(p) => with_port(text.with(b"function port"), p),
-        End::Host => text.with(b"host"),
-        End::Unsupported(p) => with_port(text.with(b"unsupported port"), p),
-        End::Doubled(p, q) => with_port(with_port(text.with(b"doubled ports"), p), q),
+        End::Function(p) => text.with(b"end function port").with_port(p),
+        End::Host => text.with(b"end host"),
+        End::Unsupported(p) => text.with(b"end unsupported port").with_port(p),
+        End::Doubled(p, q) => text.with(b"end doubled ports").with_port(p).with_port(q),
     }
 }
 
-// The ports of a path, each after a space.
-fn with_path(text: Text, path: Path) -> Text {
-    let places = path.places;
-    let count = path.count;
+// The text with the first of the places, each after a space.
+fn with_places(text: Text, places: [PortNo; 32], count: usize) -> Text
+    ensures { λ r. ⌜ r ≡ appended text (eachSpaced (take count places)) ⌝ }
+{
     let mut grown = text;
     let mut i = 0;
     while i < 32 {
-        if i < count {
-            let p = places[i];
-            grown = with_port(grown, p);
+        if count <= i {
+            return grown;
         }
+        let p = places[i];
+        grown = grown.with_port(p);
         i += 1;
     }
     grown
 }
 
-// Where a packet goes, or why that is not answered; `config` tells a configuration request.
-pub fn walk_text(answer: WalkAnswer, config: bool) -> Text {
-    let outcome = answer.outcome;
-    let path = answer.path;
-    match outcome {
-        Outcome::Refused(r) => of_refusal(r),
-        Outcome::Ended(end) => with_path(of_end(end, config).with(b"\npath"), path),
-    }
+// Where a packet goes: its end, and on a second line the ports that it has crossed.
+pub fn walk_text(config: bool, end: End, path: Path) -> Text
+    ensures { λ r. ⌜ r ≡ textOf (walkLines config end path) ⌝ }
+{
+    let places = path.places;
+    let text = end_text(config, end).with(b"\npath");
+    with_places(text, places, path.count)
 }

@@ -1,0 +1,64 @@
+-- 01, "Numbers given back": "The program reads a picture from standard input and prints two lines, `ports N` and `clear`; on any
+-- refusal it prints only one line, `refused K`, followed where named by ` id ` or ` addr ` and lower-case hexadecimal digits
+-- (4 or 16), and ` ports` with each decimal number after a space." The lines of a walk are of docs/DECISIONS.md.
+use Prim.Native.Nat.{ℕ}
+use mathlib.Core.Bool.{Bool, cond}
+use mathlib.Core.List.{List, [], _∷_, _++_}
+use lib.Dec.{eqb}
+use lib.ListN.{take}
+use Rattle.io.specs.Digits.{digits}
+use Rattle.ids.specs.declared.PortNo.{PortNo}
+use Rattle.ids.specs.declared.Target.the-variants.{Id, Addr}
+use Rattle.chassis.specs.declared.Finding.{Finding}
+use Rattle.chassis.specs.declared.Shown.{Shown}
+use Rattle.chassis.specs.declared.Shown.the-variants.{NoTarget, Least}
+use Rattle.chassis.specs.declared.Holders.{Holders}
+use Rattle.chassis.specs.declared.Holders.the-variants.{Nobody, Only, Both}
+use Rattle.chassis.specs.declared.End.{End}
+use Rattle.chassis.specs.declared.End.the-variants.{Device, Function, Host, Unsupported, Doubled}
+use Rattle.paths.specs.declared.Path.{Path}
+use Rattle.texts.specs.Texts.{ascii, decimal}
+
+-- a "decimal number after a space"
+unfoldable pub spaced : ℕ → List ℕ
+spaced n = ascii " " ++ decimal n
+
+-- "each decimal number after a space"
+unfoldable pub eachSpaced : List PortNo → List ℕ
+eachSpaced [] = []
+eachSpaced (p ∷ ports) = spaced (p .0) ++ eachSpaced ports
+
+-- "where named by ` id ` or ` addr ` and lower-case hexadecimal digits (4 or 16)"
+unfoldable pub targetWords : Shown → List ℕ
+targetWords NoTarget = []
+targetWords (Least (Id rid)) = ascii " id " ++ digits 16 4 (rid .0)
+targetWords (Least (Addr a)) = ascii " addr " ++ digits 16 16 a
+
+-- "and ` ports` with each decimal number after a space"
+unfoldable pub portsWords : Holders → List ℕ
+portsWords Nobody = []
+portsWords (Only p) = ascii " ports" ++ eachSpaced (p ∷ [])
+portsWords (Both p q) = ascii " ports" ++ eachSpaced (p ∷ q ∷ [])
+
+-- "`refused K`, followed where named by .."
+unfoldable pub refusedLine : Finding → List ℕ
+refusedLine f = ascii "refused" ++ spaced (f .number) ++ targetWords (f .target) ++ portsWords (f .ports)
+
+-- "two lines, `ports N` and `clear`", with this byte between them; "on any refusal .. only one line"
+unfoldable pub reportLines : ℕ → Finding → ℕ → List ℕ
+reportLines count f end =
+    cond (eqb (f .number) 0)
+    (ascii "ports" ++ spaced count ++ (end ∷ []) ++ ascii "clear")
+    (refusedLine f)
+
+-- where a packet ends, with ` function N` for a configuration request alone
+unfoldable pub endLine : Bool → End → List ℕ
+endLine config (Device p function) = ascii "end device port" ++ spaced (p .0) ++ cond config (ascii " function" ++ spaced function) []
+endLine config (Function p) = ascii "end function port" ++ spaced (p .0)
+endLine config Host = ascii "end host"
+endLine config (Unsupported p) = ascii "end unsupported port" ++ spaced (p .0)
+endLine config (Doubled p q) = ascii "end doubled ports" ++ eachSpaced (p ∷ q ∷ [])
+
+-- the end, and on a second line `path` with each port crossed after a space
+unfoldable pub walkLines : Bool → End → Path → List ℕ
+walkLines config end path = endLine config end ++ (10 ∷ ascii "path") ++ eachSpaced (take (path .count) (path .places))
