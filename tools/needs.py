@@ -3,11 +3,13 @@
 
     tools/needs.py CRATE FUNCTION       what is known at each need of a function, nearest first, after `rt goals CRATE`
     tools/needs.py tidy                 drops from every Proof.antt the places, and the names that it does not use
+    tools/needs.py shorten [FILE..]     in every Proof.antt, or these: an answer that is `search needs`, `omega arith` or `tt` and no
+                                        more stands where the needs are handed over, instead of a declaration of its own; then tidy
 
 From Python: `fill(crate, function, {need: answer}, uses, unfolding, inv, measure)` writes answers into the function's
 Proof.antt, where `@thing` (@args, @pre, @if1, @loop, a callee's name ..) stands for the path into `c` to what bound it;
 `uses` are lines to import. A function in a module is written module/function. The places of a call's `-requires` are not
-always found: count those by hand."""
+always found: count those by hand. Needs that `shorten` has moved have no declaration for `fill` to write into."""
 import glob
 import re
 import subprocess
@@ -99,17 +101,49 @@ def tidied(text):
     return re.sub(r"\n{3,}", "\n\n", text)
 
 
-def tidy():
-    for file in glob.glob("crates/*/proofs/**/Proof.antt", recursive=True):
+PLAIN = re.compile(r"\n\n(\S+) : tie\.Need-[^\n]*\n\1 (c(?: κs)?) = (search needs|omega arith|tt)(?=\n\n)")
+
+
+def word(name):
+    """A name where it stands by itself: no part of another name, and no field."""
+    return re.compile(rf'(?<![^\s(){{}};,@"]){re.escape(name)}(?![^\s(){{}};,@"])')
+
+
+def in_place(name, binders, answer):
+    """An answer as an argument. `search` takes a need's binders by itself, but not those of `returns`."""
+    if answer == "search needs" and not name.startswith("returns"):
+        return "(search needs)"
+    return f"(λ {binders}. {answer})"
+
+
+def shortened(text):
+    """Plain answers moved to where they are handed over; one whose name stands elsewhere too is left alone."""
+    before, handing_over, arguments = text.rpartition("tie.spec")
+    answers, spec, closing = before.rpartition("\n\npub ")
+    if not re.match(r"\S+-spec :", closing):
+        return text
+    answers += "\n\n"
+    for found in PLAIN.finditer(answers):
+        name = found.group(1)
+        rest = answers.replace(found.group(0), "", 1)
+        if word(name).search(arguments) and not word(name).search(rest):
+            answers, arguments = rest, word(name).sub(in_place(*found.groups()), arguments)
+    return tidied(answers.removesuffix("\n\n") + spec + closing + handing_over + arguments)
+
+
+def rewrite(change, files=()):
+    for file in files or glob.glob("crates/*/proofs/**/Proof.antt", recursive=True):
         text = open(file).read()
-        if tidied(text) != text:
-            open(file, "w").write(tidied(text))
+        if change(text) != text:
+            open(file, "w").write(change(text))
             print(file)
 
 
 if __name__ == "__main__":
     if sys.argv[1:] == ["tidy"]:
-        tidy()
+        rewrite(tidied)
+    elif sys.argv[1:2] == ["shorten"]:
+        rewrite(shortened, sys.argv[2:])
     elif len(sys.argv) == 3:
         show(*sys.argv[1:])
     else:
