@@ -3,6 +3,9 @@ use ids::PortNo;
 ghost use mathlib.Core.Path.{_≡_};
 ghost use Rattle.answers.specs.Answers.{answerBytes, noPlaces, pathPlaces, targetPlaces};
 
+// How many bytes an answer has.
+pub const ANSWER_BYTES: usize = 40;
+
 // What stands before the places.
 pub struct Head {
     pub number: u8,
@@ -14,12 +17,12 @@ pub struct Head {
 }
 
 // An answer that uses no place.
-pub fn without_places(h: Head) -> [u8; 40]
+pub fn without_places(h: Head) -> [u8; ANSWER_BYTES]
     ensures { λ r. ⌜ r ≡ answerBytes h noPlaces ⌝ }
 {
     let port = h.port;
     let second = h.second;
-    let mut out = [255u8; 40];
+    let mut out = [255u8; ANSWER_BYTES];
     out[0] = h.number;
     out[1] = h.end;
     out[2] = port.0;
@@ -32,7 +35,7 @@ pub fn without_places(h: Head) -> [u8; 40]
 }
 
 // An answer whose places are those of a path.
-pub fn with_path(h: Head, places: [PortNo; 32]) -> [u8; 40]
+pub fn with_path(h: Head, places: [PortNo; 32]) -> [u8; ANSWER_BYTES]
     ensures { λ r. ⌜ r ≡ answerBytes h (pathPlaces places) ⌝ }
 {
     let mut out = without_places(h);
@@ -46,7 +49,7 @@ pub fn with_path(h: Head, places: [PortNo; 32]) -> [u8; 40]
 }
 
 // An answer with a least target in its first 8 places.
-pub fn with_target(h: Head, t: u64) -> [u8; 40]
+pub fn with_target(h: Head, t: u64) -> [u8; ANSWER_BYTES]
     ensures { λ r. ⌜ r ≡ answerBytes h (targetPlaces t) ⌝ }
 {
     let mut out = without_places(h);

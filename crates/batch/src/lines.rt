@@ -12,7 +12,7 @@ fn print_line(text: Text) {
 
 // What the report program prints, with a slash for the line end between.
 pub fn print_report(picture: &[u8]) {
-    print_line(texts::report_text(picture, judge::check(picture), b'/'));
+    print_line(reports::report(picture, b'/'));
 }
 
 fn with_byte(text: Text, b: u8) -> Text {

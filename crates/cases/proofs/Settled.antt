@@ -12,7 +12,7 @@ use Rattle.vectors.specs.Vectors.{entryOf, isSet, hits}
 use Rattle.chassis.specs.Tree.{anyBelow, upstreamBroken, downstreamBroken, treeBroken, oneAbove, above, chainTooLong}
 use Rattle.chassis.specs.Walk.{functionNumber}
 use Rattle.registers.specs.declared.Fpb.{Fpb}
-use Rattle.registers.specs.Record.{bridgeAt, fpbAt, portAt}
+use Rattle.registers.specs.Record.{bridgeAt, fpbAt, portAt, recordAt}
 use Rattle.registers.specs.Rules.{sizeReserved, granularityAllowed, mechanismWrong, memoryBitsWrong, settingsWrong, withAri, startBroken, startWrong}
 use Rattle.registers.specs.Vectors.{settingsOf, vectorBytes}
 use Rattle.picture.specs.Header.{headerOf, lengthWrong, editionWrong, countWrong, totalWrong, offsetWrong}
@@ -25,7 +25,7 @@ use Rattle.cases.specs.Chain.{zeros, recordOf, chainWith}
 use Rattle.cases.specs.Settled.{memoryOf, settled, all, c1, c2, c3, c4, c5, c6, c7, c8, c9, c10, c11, c12}
 
 pub all-settled : all settled ≡ true
-unfolding c1 c2 c3 c4 c5 c6 c7 c8 c9 c10 c11 c12 zeros recordOf chainWith entryOf isSet hits settingsOf vectorBytes busClaims vectorClaims memoryClaims lowClaims claimsId inSecondaryRange convertedByBus converted functionNumber convertOf reading portsReading misplacedIn breaks runningOffset placeWrong endWrong vectorOf headerOf lengthWrong editionWrong countWrong totalWrong offsetWrong sizeReserved granularityAllowed mechanismWrong memoryBitsWrong settingsWrong withAri startBroken startWrong bridgeAt fpbAt portAt anyBelow upstreamBroken downstreamBroken treeBroken oneAbove above chainTooLong firstOf firstIn u16At u32At
+unfolding c1 c2 c3 c4 c5 c6 c7 c8 c9 c10 c11 c12 zeros recordOf chainWith entryOf isSet hits settingsOf vectorBytes busClaims vectorClaims memoryClaims lowClaims claimsId inSecondaryRange convertedByBus converted functionNumber convertOf reading portsReading misplacedIn breaks runningOffset placeWrong endWrong vectorOf headerOf lengthWrong editionWrong countWrong totalWrong offsetWrong sizeReserved granularityAllowed mechanismWrong memoryBitsWrong settingsWrong withAri startBroken startWrong bridgeAt fpbAt portAt recordAt anyBelow upstreamBroken downstreamBroken treeBroken oneAbove above chainTooLong firstOf firstIn u16At u32At
 all-settled = refl
 
 -- C6 and C8 say "never" and "nothing": of any registers and any vector, and at every address

@@ -81,12 +81,13 @@ module _ (c : Chassis) where
   neither unshared unstrayed Stray = unstrayed
 
   lost-at : (f : Found) → ((fault : Fault) → NoneWith fault c) → Least (ownIdLost c) 0 (c .tree .count) f → Says c (orNext (lostAt f) Clear)
+  unfolding orNext
   lost-at (At p) none a = (none, record { below = a .below; passes = a .holds; first = λ q l. a .first .none q zero-le l })
   lost-at Nothing none kept = (none, λ p l. kept .none p zero-le l)
 
   -- the verdict says of the chassis what its row of the table says
   pub verdict-says : Says c (verdictOf c)
-  unfolding verdictOf rowOf
+  unfolding verdictOf rowOf orNext
   verdict-says =
       go (leastTarget (faulty Shared c) Ids) (leastTarget (faulty Shared c) Addresses) (leastTarget (faulty Stray c) Ids)
       (leastTarget (faulty Stray c) Addresses) refl refl refl refl

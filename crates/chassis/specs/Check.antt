@@ -95,7 +95,7 @@ rowOf c (RowAt fault space) = atLeast c fault space (leastTarget (faulty fault c
 rowOf c RowLost = lostAt (firstIn (ownIdLost c) 0 (c .tree .count))
 
 -- numbers 11 to 15: "Lowest number wins"
-abbrev pub orNext : Verdict → Verdict → Verdict
+unfoldable pub orNext : Verdict → Verdict → Verdict
 orNext Clear next = next
 orNext (Shared t p q) next = Shared t p q
 orNext (Stray t p) next = Stray t p

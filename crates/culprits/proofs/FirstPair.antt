@@ -10,15 +10,15 @@ use Rattle.least.specs.Least.{firstIn}
 use Rattle.least.proofs.Laws.{NoneIn, at-is}
 use Rattle.ids.specs.Ids.{portNo}
 use Rattle.chassis.specs.Chassis.{Chassis}
-use Rattle.chassis.specs.Check.{clash, clashesWith, shared}
-use Rattle.chassis.specs.Findings.{SomeBelow}
-use Rattle.chassis.proofs.Ports.{anyBelow-true, anyBelow-false}
+use Rattle.chassis.specs.Check.{clash, clashesWith, faulty}
+use Rattle.chassis.specs.declared.Fault.the-variants.{Shared}
+use Rattle.chassis.proofs.Ports.{SomeBelow, anyBelow-true, anyBelow-false}
 use Rattle.culprits.specs.Culprits.{pairAt}
 
 module _ (c : Chassis) (t : Target) {p : ℕ} (passed : NoneIn (clashesWith c t) 0 p) where
   -- a shared target has a pair, so its first port is yet to come
-  pub port-left : shared c t ≡ true → p < c .tree .count
-  unfolding shared
+  pub port-left : faulty Shared c t ≡ true → p < c .tree .count
+  unfolding faulty
   port-left is-shared = go (anyBelow-true (clashesWith c t) (c .tree .count) .0 is-shared)
     where
       go : SomeBelow (clashesWith c t) (c .tree .count) → p < c .tree .count

@@ -3,15 +3,15 @@ use Prim.Native.Nat.{ℕ}
 use mathlib.Core.Bool.{Bool}
 use Rattle.ids.specs.declared.Target.{Target}
 use Rattle.chassis.specs.Chassis.{Chassis}
-use Rattle.chassis.specs.Check.{straysAt, ownIdLost, firstOfPair, secondOfPair}
+use Rattle.chassis.specs.Check.{clash, straysAt, ownIdLost, lowestPort, firstOfPair}
 use Rattle.culprits.specs.declared.pairs.Pair.{Pair}
-use Rattle.culprits.specs.declared.ports.Fault.{Fault}
-use Rattle.culprits.specs.declared.ports.Fault.the-variants.{Stray, Lost}
+use Rattle.culprits.specs.declared.ports.PortFault.{PortFault}
+use Rattle.culprits.specs.declared.ports.PortFault.the-variants.{Stray, Lost}
 
 unfoldable pub pairAt : Chassis → Target → Pair
-pairAt c t = record { first = firstOfPair c t; second = secondOfPair c t }
+pairAt c t = record { first = firstOfPair c t; second = lowestPort c (clash c t (firstOfPair c t .0)) }
 
 -- what is wrong with a port by itself
-abbrev pub hasFault : Fault → Chassis → ℕ → Bool
+abbrev pub hasFault : PortFault → Chassis → ℕ → Bool
 hasFault (Stray t) c = straysAt c t
 hasFault Lost c = ownIdLost c

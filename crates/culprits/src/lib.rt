@@ -4,6 +4,6 @@ mod ports;
 
 pub use pairs::Pair;
 pub use pairs::first_pair;
-pub use ports::Fault;
+pub use ports::PortFault;
 pub use ports::lowest;
 pub use ports::lowest_stray;

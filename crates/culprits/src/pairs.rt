@@ -7,7 +7,8 @@ use ids::Target;
 use registers::parent_at;
 ghost use mathlib.Core.Bool.{true};
 ghost use mathlib.Core.Path.{_≡_};
-ghost use Rattle.chassis.specs.Check.{clash, shared};
+ghost use Rattle.chassis.specs.declared.Fault.the-variants.{Shared};
+ghost use Rattle.chassis.specs.Check.{clash, faulty};
 ghost use Rattle.trees.specs.Trees.{countOf};
 ghost use Rattle.claims.specs.Claims.{chassisOf};
 ghost use Rattle.culprits.specs.Culprits.{pairAt};
@@ -33,7 +34,7 @@ fn clashes(s: &[u8], t: Target, p: PortNo, q: PortNo) -> bool
 // The first pair at a target that is shared, by first port and then second, a port with itself tried too.
 pub fn first_pair(s: &[u8], n: u8, t: Target) -> Pair
     requires { ⌜ n ≡ countOf (now s) ⌝ }
-    requires { ⌜ shared (chassisOf (now s)) t ≡ true ⌝ }
+    requires { ⌜ faulty Shared (chassisOf (now s)) t ≡ true ⌝ }
     ensures { λ r. ⌜ r ≡ pairAt (chassisOf (now (s .entry))) t ⌝ }
 {
     let mut p: u8 = 0;

@@ -6,7 +6,7 @@ use claims::conversion;
 use claims::holds;
 use ids::PortNo;
 use ids::Target;
-use picture::Culprit;
+use least::Found;
 use registers::kind_at;
 use registers::own_id_at;
 use registers::parent_at;
@@ -14,12 +14,11 @@ ghost use mathlib.Core.Path.{_≡_};
 ghost use Rattle.least.specs.Least.{firstIn};
 ghost use Rattle.chassis.specs.Check.{straysAt, isType0, ownIdLost, lowestPort};
 ghost use Rattle.trees.specs.Trees.{countOf};
-ghost use Rattle.picture.specs.Reading.{culpritOf};
 ghost use Rattle.claims.specs.Claims.{chassisOf};
 ghost use Rattle.culprits.specs.Culprits.{hasFault};
 
 // What may be wrong with a port by itself.
-pub enum Fault {
+pub enum PortFault {
     Stray(Target),
     Lost,
 }
@@ -53,28 +52,28 @@ fn own_id_lost(s: &[u8], p: PortNo) -> bool
 }
 
 // Whether a port has a fault.
-fn has_fault(s: &[u8], fault: Fault, p: PortNo) -> bool
+fn has_fault(s: &[u8], fault: PortFault, p: PortNo) -> bool
     ensures { λ r. ⌜ r ≡ hasFault fault (chassisOf (now (s .entry))) (p .0) ⌝ }
 {
     match fault {
-        Fault::Stray(t) => strays_at(s, t, p),
-        Fault::Lost => own_id_lost(s, p),
+        PortFault::Stray(t) => strays_at(s, t, p),
+        PortFault::Lost => own_id_lost(s, p),
     }
 }
 
 // The lowest of n ports that has a fault.
-pub fn lowest(s: &[u8], n: u8, fault: Fault) -> Culprit
+pub fn lowest(s: &[u8], n: u8, fault: PortFault) -> Found
     requires { ⌜ n ≡ countOf (now s) ⌝ }
-    ensures { λ r. ⌜ r ≡ culpritOf (firstIn (hasFault fault (chassisOf (now (s .entry)))) 0 (countOf (now (s .entry)))) ⌝ }
+    ensures { λ r. ⌜ r ≡ firstIn (hasFault fault (chassisOf (now (s .entry)))) 0 (countOf (now (s .entry))) ⌝ }
 {
     let mut p: u8 = 0;
     while p < n {
         if has_fault(s, fault, PortNo(p)) {
-            return Culprit::Port(PortNo(p));
+            return Found::At(p as u64);
         }
         p += 1;
     }
-    Culprit::Nobody
+    Found::Nothing
 }
 
 // The lowest of n ports that strays at a target; 255 where none does.
@@ -82,8 +81,8 @@ pub fn lowest_stray(s: &[u8], n: u8, t: Target) -> PortNo
     requires { ⌜ n ≡ countOf (now s) ⌝ }
     ensures { λ r. ⌜ r ≡ lowestPort (chassisOf (now (s .entry))) (straysAt (chassisOf (now (s .entry))) t) ⌝ }
 {
-    match lowest(s, n, Fault::Stray(t)) {
-        Culprit::Port(p) => p,
-        Culprit::Nobody => PortNo(255),
+    match lowest(s, n, PortFault::Stray(t)) {
+        Found::At(p) => PortNo(p as u8),
+        Found::Nothing => PortNo::NONE,
     }
 }

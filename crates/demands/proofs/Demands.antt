@@ -1,28 +1,34 @@
 -- The three demands, proved of the definitions that the public calls promise. Assumes nothing.
-use Prim.Native.Nat.{ℕ, _+_, _-_, _≤_}
+use Prim.Native.Nat.{ℕ, _-_, _≤_, _<_}
+use borrow.Author.Tests.{lt-ltb}
+use Rattle.chassis.proofs.Bools.{never-both-values}
 use mathlib.Core.Bool.{Bool, true, false}
 use mathlib.Core.List.{List, _++_}
-use mathlib.Core.Logic.{_↔_, _⊎_, inl, inr, ⊎-elim}
+use mathlib.Core.Logic.{_⊎_, inl, inr, ⊎-elim}
 use mathlib.Core.Path.{_≡_, refl, sym, ap, subst, _∙_}
 use native.Mathlib.Nat.{le-trans}
 use native.Mathlib.Omega.{arith}
 use lib.ListN.{length, length-append, length-replicate}
 use Rattle.ids.specs.declared.PortNo.{PortNo}
+use Rattle.ids.specs.declared.Rid.{Rid}
 use Rattle.ids.specs.declared.Target.{Target}
 use Rattle.ids.specs.declared.Target.the-variants.{Id, Addr}
 use Rattle.chassis.specs.declared.End.{End}
 use Rattle.chassis.specs.declared.Packet.{Packet}
 use Rattle.chassis.specs.declared.Verdict.{Verdict}
 use Rattle.chassis.specs.declared.Verdict.the-variants.{Clear, Shared, Stray, Lost}
-use Rattle.chassis.specs.Check.{shared, verdictOf, verdictNumber}
-use Rattle.chassis.specs.Findings.{IsShared, SomeWith, SaysClear, Says}
+use Rattle.chassis.specs.declared.Fault.the-variants.{Shared as Faulty·Shared, Stray as Faulty·Stray}
+use Rattle.chassis.specs.Chassis.{Chassis}
+use Rattle.chassis.specs.Check.{faulty, verdictOf}
+use Rattle.chassis.specs.Table.{findingOf}
+use Rattle.chassis.specs.Findings.{NoneWith, Says}
 use Rattle.chassis.specs.OneEnd.{InRange, OneEnd}
 use Rattle.chassis.specs.Walk.{Walk, comeTo}
 use Rattle.chassis.proofs.CheckLaws.{shared-true}
 use Rattle.chassis.proofs.Demand3.{clean-one-end}
 use Rattle.chassis.proofs.Steps.{left-most}
-use Rattle.chassis.proofs.Verdicts.{verdict-says, shared-exactly}
-use Rattle.chassis.proofs.Walks.{walk-short}
+use Rattle.chassis.proofs.Verdicts.{verdict-says}
+use Rattle.chassis.proofs.Walks.{walk-exists, walk-short}
 use Rattle.paths.specs.declared.Path.{Path}
 use Rattle.ids.specs.Ids.{noPort}
 use Rattle.paths.specs.Paths.{pathOf}
@@ -34,10 +40,15 @@ use Rattle.trees.specs.Trees.{treeOf}
 use Rattle.claims.specs.Claims.{chassisOf}
 use Rattle.routes.specs.declared.Walked.{Walked}
 use Rattle.routes.specs.Routes.{Arrives}
-use Rattle.judge.specs.declared.CheckAnswer.the-variants.{Refused, Judged}
+use Rattle.judge.specs.declared.CheckAnswer.the-variants.{Judged}
 use Rattle.judge.specs.declared.WalkAnswer.{WalkAnswer}
 use Rattle.judge.specs.declared.Outcome.the-variants.{Ended}
-use Rattle.judge.specs.Checking.{checkOf, checkAnswer, checkNumber}
+use Rattle.judge.specs.declared.ClaimAnswer.the-variants.{Claimed}
+use Rattle.judge.specs.declared.ConvertAnswer.the-variants.{Converted}
+use Rattle.judge.specs.Checking.{checkOf, checkAnswer, checkFinding, checkNumber}
+use Rattle.judge.specs.Claiming.{claimOf, claimAnswer}
+use Rattle.judge.specs.Converting.{convertOf, convertAnswer}
+use Rattle.judge.specs.Refusals.{number16, refusalFinding}
 use Rattle.judge.specs.Walking.{packetOf, askedWrongly, refusedWalk, endedWalk, AskedGives, ReadGives, WalkGives}
 use Rattle.judge.proofs.Walks.{walk-only, sane-read, within-start}
 use Rattle.fiswalend.specs.Calls.{tooShort, returned, written, WalkLeaves, WalkCall}
@@ -48,7 +59,7 @@ use Rattle.demands.proofs.Numbers.{reading-in-table, check-numbered, cl
 
 pub demand-1 : (s : List ℕ) → Demand1 s
 demand-1 s =
-    record { reading = reading-in-table s; check = check-numbered s; walk = walk-numbered s; claim = claim-numbered s; convert = convert-numbered s }
+    record { reads = reading-in-table s; check = check-numbered s; walk = walk-numbered s; claim = claim-numbered s; convert = convert-numbered s }
 
 pub demand-1-buffer : (s before : List ℕ) → Demand1Buffer s before
 unfolding returned written
@@ -76,35 +87,78 @@ names path crossed short is =
     whole : length (crossed ++ lib.ListN.replicate (32 - length crossed) noPort) ≡ 32
     whole = simp (length-append, length-replicate) (omega arith)
 
-pub demand-2 : (s : List ℕ) (kind start target : ℕ) → Demand2 s kind start target
-unfolding refusedWalk endedWalk
-demand-2 s kind start target = record { only = walk-only s kind start target; named = λ a e gives ended. read a e (reading s) refl gives ended }
-  where
-    Named : WalkAnswer → End → Type 0
-    Named a e = (crossed : List PortNo) × Walk (chassisOf s) (packetOf kind target) (comeTo start) crossed e × Names (a .path) crossed
+module _ (s : List ℕ) where
+  claims-it : (h : Header) → reading s ≡ Read h → (port : ℕ) → port < h .count → (t : Target)
+      → claimAnswer s port t ≡ Claimed (chassisOf s .claims port t)
+  unfolding claimOf
+  claims-it h is port below t = rw (is, lt-ltb port (h .count) below)
 
-    asked : (a : WalkAnswer) (e : End) (h : Header) → reading s ≡ Read h → (wrong : Bool) → askedWrongly (treeOf s) kind start target ≡ wrong
-        → AskedGives wrong s kind start target a → a .outcome ≡ Ended e → Named a e
-    asked a e h is true wrong gives ended = let told = ap (λ (x : WalkAnswer). x .outcome) gives in let z : _≡_ {A = ℕ} 0 1 = cc in absurd (omega arith)
-    asked a e h is false right given ended =
-        let w = given .0 in
-        let arrives = given .1 in
-        let gives = given .2 in
-        let told = ap (λ (x : WalkAnswer). x .outcome) gives in
-        let same : w .end ≡ e = cc in
-        let within = within-start s h is kind start target right refl in
-        let short = le-trans (walk-short (chassisOf s) (packetOf kind target) (sane-read s h is) within (arrives .walk)) (left-most (chassisOf s) (comeTo start)) in (
-          arrives .crossed,
-          subst (λ (x : End). Walk (chassisOf s) (packetOf kind target) (comeTo start) (arrives .crossed) x) same (arrives .walk),
-          names (a .path) (arrives .crossed) short (ap (λ (x : WalkAnswer). x .path) gives ∙ arrives .named),
-        )
+  converts-it : (h : Header) → reading s ≡ Read h → (port : ℕ) → port < h .count → (rid : Rid)
+      → convertAnswer s port rid ≡ Converted (chassisOf s .conversion port (Id rid))
+  unfolding convertOf
+  converts-it h is port below rid = rw (is, lt-ltb port (h .count) below)
 
-    read : (a : WalkAnswer) (e : End) (got : Reading) → reading s ≡ got → ReadGives got s kind start target a → a .outcome ≡ Ended e → Named a e
-    read a e (NotRead r) is gives ended = let told = ap (λ (x : WalkAnswer). x .outcome) gives in let z : _≡_ {A = ℕ} 0 1 = cc in absurd (omega arith)
-    read a e (Read h) is gives ended = asked a e h is (askedWrongly (treeOf s) kind start target) refl gives ended
+module _ (s : List ℕ) (kind start target : ℕ) where
+  -- the walk's answer: a refusal, or where the rules lead
+  answered : (a : WalkAnswer) × WalkGives s kind start target a
+  answered = read (reading s) refl
+    where
+      asked : (h : Header) → reading s ≡ Read h → (wrong : Bool) → askedWrongly (treeOf s) kind start target ≡ wrong
+          → (a : WalkAnswer) × AskedGives wrong s kind start target a
+      asked h is true wrong = (refusedWalk number16, refl)
+      asked h is false right =
+          let w = walk-exists (chassisOf s) (packetOf kind target) (sane-read s h is) (comeTo start) (within-start s h is kind start target right refl) in
+          let walked : Walked = record { path = pathOf (w .path); end = w .end } in
+          (endedWalk walked, (walked, record { crossed = w .path; walk = w .walk; named = refl }, refl))
+
+      read : (got : Reading) → reading s ≡ got → (a : WalkAnswer) × ReadGives got s kind start target a
+      read (NotRead r) is = (refusedWalk r, refl)
+      read (Read h) is = asked h is (askedWrongly (treeOf s) kind start target) refl
+
+  Named : WalkAnswer → End → Type 0
+  Named a e = (crossed : List PortNo) × Walk (chassisOf s) (packetOf kind target) (comeTo start) crossed e × Names (a .path) crossed
+
+  asked-named : (a : WalkAnswer) (e : End) (h : Header) → reading s ≡ Read h → (wrong : Bool) → askedWrongly (treeOf s) kind start target ≡ wrong
+      → AskedGives wrong s kind start target a → a .outcome ≡ Ended e → Named a e
+  unfolding refusedWalk endedWalk Named
+  asked-named a e h is true wrong gives ended =
+      let told = ap (λ (x : WalkAnswer). x .outcome) gives in
+      let z : _≡_ {A = ℕ} 0 1 = cc in
+      absurd (omega arith)
+  asked-named a e h is false right given ended =
+      let w = given .0 in
+      let arrives = given .1 in
+      let gives = given .2 in
+      let told = ap (λ (x : WalkAnswer). x .outcome) gives in
+      let same : w .end ≡ e = cc in
+      let within = within-start s h is kind start target right refl in
+      let short = le-trans (walk-short (chassisOf s) (packetOf kind target) (sane-read s h is) within (arrives .walk)) (left-most (chassisOf s) (comeTo start)) in (
+        arrives .crossed,
+        subst (λ (x : End). Walk (chassisOf s) (packetOf kind target) (comeTo start) (arrives .crossed) x) same (arrives .walk),
+        names (a .path) (arrives .crossed) short (ap (λ (x : WalkAnswer). x .path) gives ∙ arrives .named),
+      )
+
+  read-named : (a : WalkAnswer) (e : End) (got : Reading) → reading s ≡ got → ReadGives got s kind start target a → a .outcome ≡ Ended e → Named a e
+  unfolding refusedWalk
+  read-named a e (NotRead r) is gives ended =
+      let told = ap (λ (x : WalkAnswer). x .outcome) gives in
+      let z : _≡_ {A = ℕ} 0 1 = cc in
+      absurd (omega arith)
+  read-named a e (Read h) is gives ended = asked-named a e h is (askedWrongly (treeOf s) kind start target) refl gives ended
+
+pub demand-2 : (s : List ℕ) → Demand2 s
+unfolding Named
+demand-2 s =
+    record {
+      claims = claims-it s;
+      converts = converts-it s;
+      answers = answered s;
+      only = walk-only s;
+      named = λ kind start target a e gives ended. read-named s kind start target a e (reading s) refl gives ended;
+    }
 
 -- a verdict of number 0 is Clear
-clear-only : (v : Verdict) → verdictNumber v ≡ 0 → v ≡ Clear
+clear-only : (v : Verdict) → findingOf v .number ≡ 0 → v ≡ Clear
 clear-only Clear e = refl
 clear-only (Shared (Id rid) p q) e = absurd (omega arith)
 clear-only (Shared (Addr a) p q) e = absurd (omega arith)
@@ -113,62 +167,59 @@ clear-only (Stray (Addr a) p) e = absurd (omega arith)
 clear-only (Lost p) e = absurd (omega arith)
 
 pub demand-3 : (s : List ℕ) → Demand3 s
-unfolding checkOf
+unfolding checkOf checkFinding refusalFinding
 demand-3 s passed t range = go (reading s) refl passed
   where
-    go : (got : Reading) → reading s ≡ got → checkNumber (checkOf got s) ≡ 0 → OneEnd (chassisOf s) t
+    go : (got : Reading) → reading s ≡ got → checkFinding (checkOf got s) .number ≡ 0 → OneEnd (chassisOf s) t
     go (NotRead r) is none = absurd (never-zero s r is none)
     go (Read h) is none =
         let clear = clear-only (verdictOf (chassisOf s)) none in
-        let says : SaysClear (chassisOf s) = subst (Says (chassisOf s)) clear (verdict-says (chassisOf s)) in
+        let says : Says (chassisOf s) Clear = subst (Says (chassisOf s)) clear (verdict-says (chassisOf s)) in
         clean-one-end (chassisOf s) t (sane-read s h is)
-        (record { unshared = says .unshared t range; unstrayed = says .unstrayed t range })
-
--- 11 and 12 are the numbers of a shared target
-shared-number : (v : Verdict) → ((verdictNumber v ≡ 11) ⊎ (verdictNumber v ≡ 12)) ↔ IsShared v
-shared-number Clear = (⊎-elim (λ e. omega arith) (λ e. omega arith), λ none. absurd none)
-shared-number (Shared (Id rid) p q) = (λ e. tt, λ is. inl refl)
-shared-number (Shared (Addr a) p q) = (λ e. tt, λ is. inr refl)
-shared-number (Stray (Id rid) p) = (⊎-elim (λ e. omega arith) (λ e. omega arith), λ none. absurd none)
-shared-number (Stray (Addr a) p) = (⊎-elim (λ e. omega arith) (λ e. omega arith), λ none. absurd none)
-shared-number (Lost p) = (⊎-elim (λ e. omega arith) (λ e. omega arith), λ none. absurd none)
+        (record { unshared = says .0 Faulty·Shared t range; unstrayed = says .0 Faulty·Stray t range })
 
 -- the answer for a picture that reads is the verdict of its chassis
 judged : (s : List ℕ) (h : Header) → reading s ≡ Read h → checkAnswer s ≡ Judged (verdictOf (chassisOf s))
 unfolding checkOf
 judged s h is = rw is
 
+abbrev Either : ℕ → Type 0
+Either n = (n ≡ 11) ⊎ (n ≡ 12)
+
+module _ (c : Chassis) where
+  unseen : {A : Type 0} → Overlap c → NoneWith Faulty·Shared c → A
+  unseen o none =
+      never-both-values (faulty Faulty·Shared c (o .target)) (shared-true c (o .target) .1 (o .clashing)) (none (o .target) (o .in-range))
+
+  -- 11 and 12 are the numbers of a shared target, and no other verdict leaves one unseen
+  overlap-told : (v : Verdict) → Says c v → Either (findingOf v .number) → Overlap c
+  overlap-told (Shared t p q) says e =
+      record { target = t; in-range = says .0 .in-range; clashing = shared-true c t .0 (says .0 .passes) }
+  overlap-told Clear says e = ⊎-elim (λ x. omega arith) (λ x. omega arith) e
+  overlap-told (Stray (Id rid) p) says e = ⊎-elim (λ x. omega arith) (λ x. omega arith) e
+  overlap-told (Stray (Addr a) p) says e = ⊎-elim (λ x. omega arith) (λ x. omega arith) e
+  overlap-told (Lost p) says e = ⊎-elim (λ x. omega arith) (λ x. omega arith) e
+
+  overlap-given : Overlap c → (v : Verdict) → Says c v → Either (findingOf v .number)
+  overlap-given o (Shared (Id rid) p q) says = inl refl
+  overlap-given o (Shared (Addr a) p q) says = inr refl
+  overlap-given o Clear says = unseen o (says .0 Faulty·Shared)
+  overlap-given o (Stray t p) says = unseen o (says .0)
+  overlap-given o (Lost p) says = unseen o (says .0 Faulty·Shared)
+
 pub overlap-exactly : (s : List ℕ) (h : Header) → reading s ≡ Read h → OverlapExactly s
+unfolding checkFinding
 overlap-exactly s h is =
     record {
-      exactly = (λ e. overlaps (subst Either number e), λ o. subst Either (sym number) (given o));
+      exactly = (
+        λ e. overlap-told (chassisOf s) (verdictOf (chassisOf s)) (verdict-says (chassisOf s)) (subst Either number e),
+        λ o. subst Either (sym number) (overlap-given (chassisOf s) o (verdictOf (chassisOf s)) (verdict-says (chassisOf s))),
+      );
       shown = λ v e. subst (Says (chassisOf s)) (same v e) (verdict-says (chassisOf s));
     }
   where
-    Either : ℕ → Type 0
-    Either n = (n ≡ 11) ⊎ (n ≡ 12)
-
-    number : checkNumber (checkAnswer s) ≡ verdictNumber (verdictOf (chassisOf s))
+    number : checkNumber (checkAnswer s) ≡ findingOf (verdictOf (chassisOf s)) .number
     number = ap checkNumber (judged s h is)
 
     same : (v : Verdict) → checkAnswer s ≡ Judged v → verdictOf (chassisOf s) ≡ v
     same v e = let j = judged s h is in cc
-
-    overlaps : (verdictNumber (verdictOf (chassisOf s)) ≡ 11) ⊎ (verdictNumber (verdictOf (chassisOf s)) ≡ 12) → Overlap (chassisOf s)
-    overlaps e =
-        let some = shared-exactly (chassisOf s) .0 (shared-number (verdictOf (chassisOf s)) .0 e) in
-        record {
-          target = some .target;
-          in-range = some .in-range;
-          clashing = shared-true (chassisOf s) (some .target) .0 (some .passes);
-        }
-
-    given : Overlap (chassisOf s) → (verdictNumber (verdictOf (chassisOf s)) ≡ 11) ⊎ (verdictNumber (verdictOf (chassisOf s)) ≡ 12)
-    given o =
-        shared-number (verdictOf (chassisOf s)) .1
-        (shared-exactly (chassisOf s) .1
-        (record {
-          target = o .target;
-          in-range = o .in-range;
-          passes = shared-true (chassisOf s) (o .target) .1 (o .clashing);
-        }))

@@ -7,9 +7,10 @@ use Rattle.ids.specs.declared.Target.the-variants.{Id}
 use Rattle.least.specs.Least.{firstOf, firstIn}
 use Rattle.lent.specs.Lent.{u16At, u32At}
 use Rattle.chassis.specs.Chassis.{holds}
-use Rattle.chassis.specs.Check.{clash, clashesWith, shared}
+use Rattle.chassis.specs.Check.{clash, clashesWith, faulty}
+use Rattle.chassis.specs.declared.Fault.the-variants.{Shared}
 use Rattle.chassis.specs.Tree.{anyBelow, upstreamBroken, downstreamBroken, treeBroken, oneAbove, above, chainTooLong}
-use Rattle.registers.specs.Record.{bridgeAt, fpbAt, portAt}
+use Rattle.registers.specs.Record.{bridgeAt, fpbAt, portAt, recordAt}
 use Rattle.registers.specs.Rules.{sizeReserved, granularityAllowed, mechanismWrong, memoryBitsWrong, settingsWrong, withAri, startBroken, startWrong}
 use Rattle.registers.specs.Vectors.{settingsOf, vectorBytes}
 use Rattle.picture.specs.Header.{headerOf, lengthWrong, editionWrong, countWrong, totalWrong, offsetWrong}
@@ -27,7 +28,7 @@ abbrev pub fourPorts : Header
 fourPorts = record { edition = 1; count = 4; total = 240; «records_at» = 16; «vectors_at» = 240 }
 
 pub reads : (bus : ℕ) → reading (chassisWith bus) ≡ Read fourPorts
-unfolding zeros u16 u32 headerFor recordOf chassisWith reading portsReading misplacedIn breaks runningOffset placeWrong endWrong headerOf lengthWrong editionWrong countWrong totalWrong offsetWrong sizeReserved granularityAllowed mechanismWrong memoryBitsWrong settingsWrong withAri startBroken startWrong settingsOf vectorBytes bridgeAt fpbAt portAt anyBelow upstreamBroken downstreamBroken treeBroken oneAbove above chainTooLong firstOf firstIn u16At u32At
+unfolding zeros u16 u32 headerFor recordOf chassisWith reading portsReading misplacedIn breaks runningOffset placeWrong endWrong headerOf lengthWrong editionWrong countWrong totalWrong offsetWrong sizeReserved granularityAllowed mechanismWrong memoryBitsWrong settingsWrong withAri startBroken startWrong settingsOf vectorBytes bridgeAt fpbAt portAt recordAt anyBelow upstreamBroken downstreamBroken treeBroken oneAbove above chainTooLong firstOf firstIn u16At u32At
 reads bus = refl
 
 abbrev pub id : ℕ → Target
@@ -36,8 +37,8 @@ id n = Id (record { 0 = n })
 -- port 3 must not claim its own ID; the others do not
 pub unshared-where : (bus n : ℕ) → chassisOf (chassisWith bus) .claims 3 (id 0x0208) ≡ false
     → (holds (chassisOf (chassisWith bus)) (id n) 2 && holds (chassisOf (chassisWith bus)) (id n) 3) ≡ false
-    → shared (chassisOf (chassisWith bus)) (id n) ≡ false
-unfolding zeros u16 u32 headerFor recordOf chassisWith u16At u32At bridgeAt fpbAt portAt busClaims vectorClaims claimsId anyBelow clash clashesWith shared
+    → faulty Shared (chassisOf (chassisWith bus)) (id n) ≡ false
+unfolding zeros u16 u32 headerFor recordOf chassisWith u16At u32At bridgeAt fpbAt portAt recordAt busClaims vectorClaims claimsId anyBelow clash clashesWith faulty
 unshared-where bus n own apart =
     simp (
       just 0x0008 n (λ m. chassisOf (chassisWith bus) .claims 0 (id m)) refl,

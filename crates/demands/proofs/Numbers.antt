@@ -14,7 +14,8 @@ use Rattle.least.specs.declared.Found.the-variants.{At, Nothing}
 use Rattle.least.specs.Least.{firstIn}
 use Rattle.chassis.specs.declared.Verdict.{Verdict}
 use Rattle.chassis.specs.declared.Verdict.the-variants.{Clear, Shared, Stray, Lost}
-use Rattle.chassis.specs.Check.{verdictNumber, verdictOf}
+use Rattle.chassis.specs.Check.{verdictOf}
+use Rattle.chassis.specs.Table.{findingOf}
 use Rattle.trees.specs.Trees.{countOf}
 use Rattle.picture.specs.declared.Header.{Header}
 use Rattle.picture.specs.declared.Reading.{Reading}
@@ -25,11 +26,11 @@ use Rattle.picture.specs.Header.{headerOf, lengthWrong, editionWrong, countWron
 use Rattle.picture.specs.Reading.{breaks, misplacedIn, refusedIf, refusedAt, portsReading, reading, numberOf}
 use Rattle.claims.specs.Claims.{chassisOf}
 use Rattle.judge.specs.declared.WalkAnswer.{WalkAnswer}
-use Rattle.judge.specs.Checking.{checkOf, checkAnswer, checkNumber}
+use Rattle.judge.specs.Checking.{checkOf, checkAnswer, checkFinding, checkNumber}
 use Rattle.judge.specs.Claiming.{claimOf, claimAnswer, claimNumber}
 use Rattle.judge.specs.Converting.{convertOf, convertAnswer, convertNumber}
 use Rattle.judge.specs.Ends.{outcomeNumber}
-use Rattle.judge.specs.Refusals.{number16}
+use Rattle.judge.specs.Refusals.{number16, refusalFinding}
 use Rattle.judge.specs.Walking.{askedWrongly, refusedWalk, endedWalk, AskedGives, ReadGives, WalkGives}
 use Rattle.demands.specs.Demands.{oneOf, ofReading, ofCheck, ofAsking}
 
@@ -87,7 +88,7 @@ never-zero s r e none =
     let z : _≡_ {A = ℕ} 0 1 = cc in
     omega arith
 
-verdict-numbered : (v : Verdict) → oneOf ofCheck (verdictNumber v) ≡ true
+verdict-numbered : (v : Verdict) → oneOf ofCheck (findingOf v .number) ≡ true
 verdict-numbered Clear = refl
 verdict-numbered (Shared (Id rid) p q) = refl
 verdict-numbered (Shared (Addr a) p q) = refl
@@ -108,7 +109,7 @@ module _ (s : List ℕ) where
       go (Read h) told = refl
 
   pub check-numbered : oneOf ofCheck (checkNumber (checkAnswer s)) ≡ true
-  unfolding checkOf
+  unfolding checkOf checkFinding refusalFinding
   check-numbered = go (reading s) (reading-numbered s)
     where
       go : (got : Reading) → Numbered got → oneOf ofCheck (checkNumber (checkOf got s)) ≡ true

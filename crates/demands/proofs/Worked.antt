@@ -8,24 +8,24 @@ use Rattle.ids.specs.declared.Target.{Target}
 use Rattle.ids.specs.declared.Target.the-variants.{Id, Addr}
 use Rattle.ids.specs.Ids.{busOf}
 use Rattle.lent.specs.Lent.{u16At, u32At}
-use Rattle.chassis.specs.declared.Verdict.{Verdict}
-use Rattle.chassis.specs.declared.Verdict.the-variants.{Clear, Shared, Stray, Lost}
+use Rattle.chassis.specs.declared.Fault.{Fault}
+use Rattle.chassis.specs.declared.Fault.the-variants.{Shared, Stray}
+use Rattle.chassis.specs.declared.Verdict.the-variants.{Clear}
 use Rattle.chassis.specs.Chassis.{Chassis, holds}
-use Rattle.chassis.specs.Check.{clash, clashesWith, shared, straysAt, stray, ownIdLost, verdictOf}
-use Rattle.chassis.specs.Findings.{NoneWith, SaysClear, Says}
+use Rattle.chassis.specs.Check.{clash, clashesWith, straysAt, ownIdLost, faulty}
+use Rattle.chassis.specs.Findings.{NoneWith, Says}
 use Rattle.chassis.specs.OneEnd.{InRange, OneEnd}
 use Rattle.chassis.specs.Tree.{anyBelow}
-use Rattle.chassis.proofs.Bools.{never-both-values}
 use Rattle.chassis.proofs.Ports.{anyBelow-false}
-use Rattle.chassis.proofs.Verdicts.{verdict-says}
+use Rattle.chassis.proofs.Verdicts.{verdict-exactly}
 use Rattle.picture.specs.declared.Reading.the-variants.{Read}
 use Rattle.picture.specs.Reading.{reading}
-use Rattle.registers.specs.Record.{bridgeAt, fpbAt, portAt}
+use Rattle.registers.specs.Record.{bridgeAt, fpbAt, portAt, recordAt}
 use Rattle.registers.specs.Rules.{withAri}
 use Rattle.claims.specs.Decoders.{between, busClaims, vectorClaims, memoryClaims, prefetchableClaims, lowClaims, highClaims, memorySpaceEnabled, claimsId, claimsAddress}
 use Rattle.claims.specs.Conversion.{inSecondaryRange, convertedByBus, converted}
 use Rattle.claims.specs.Claims.{chassisOf}
-use Rattle.judge.specs.Checking.{checkOf, checkAnswer, checkNumber}
+use Rattle.judge.specs.Checking.{checkOf, checkAnswer, checkFinding, checkNumber}
 use Rattle.demands.specs.Worked.{zeros, u16, u32, headerFor, recordOf, chassisWith, worked}
 use Rattle.demands.proofs.Demands.{demand-3}
 use Rattle.demands.proofs.Tests.{either-or, empty, apart, within, never-both}
@@ -43,7 +43,7 @@ buses : (n : ℕ)
     × (c .claims 1 (id n) ≡ between 2 4 (busOf n))
     × (c .claims 2 (id n) ≡ between 3 3 (busOf n))
     × (c .claims 3 (id n) ≡ between 4 4 (busOf n))
-unfolding zeros u16 u32 headerFor recordOf chassisWith u16At u32At bridgeAt fpbAt portAt busClaims vectorClaims claimsId
+unfolding zeros u16 u32 headerFor recordOf chassisWith u16At u32At bridgeAt fpbAt portAt recordAt busClaims vectorClaims claimsId
 buses n = (or-false _, or-false _, or-false _, or-false _)
 
 windows : (a : ℕ)
@@ -51,7 +51,7 @@ windows : (a : ℕ)
     × (c .claims 1 (Addr a) ≡ between 0xE0000000 0xE00FFFFF a)
     × (c .claims 2 (Addr a) ≡ between 0xE0000000 0xE00FFFFF a)
     × (c .claims 3 (Addr a) ≡ false)
-unfolding zeros u16 u32 headerFor recordOf chassisWith u16At u32At bridgeAt fpbAt portAt vectorClaims memoryClaims prefetchableClaims lowClaims highClaims memorySpaceEnabled claimsAddress
+unfolding zeros u16 u32 headerFor recordOf chassisWith u16At u32At bridgeAt fpbAt portAt recordAt vectorClaims memoryClaims prefetchableClaims lowClaims highClaims memorySpaceEnabled claimsAddress
 windows a = (only-window, only-window, only-window, refl)
   where
     only-window : (((between 0xE0000000 0xE00FFFFF a || between 0xFFF00000 0x000FFFFF a) || ltb a (2 ^ 32) && false) || leb (2 ^ 32) a && false)
@@ -61,7 +61,7 @@ windows a = (only-window, only-window, only-window, refl)
 -- no ID is held by the two downstream ports, and what a port holds is claimed by its parent
 module _ (n : ℕ) where
   held-apart : (holds c (id n) 2 && holds c (id n) 3) ≡ false
-  unfolding zeros u16 u32 headerFor recordOf chassisWith u16At u32At bridgeAt fpbAt portAt busClaims vectorClaims claimsId holds
+  unfolding zeros u16 u32 headerFor recordOf chassisWith u16At u32At bridgeAt fpbAt portAt recordAt busClaims vectorClaims claimsId holds
   held-apart =
       either-or 0x0200 n (λ m. c .claims 2 (id m)) (λ m. holds c (id m) 3) refl
       (and-comm (c .claims 2 (id n)) (holds c (id n) 3)
@@ -69,12 +69,12 @@ module _ (n : ℕ) where
       (and-comm (c .claims 3 (id n)) (c .claims 2 (id n))
       ∙ rw (buses n .2, buses n .3) (apart 3 3 4 4 (busOf n) (omega arith))))
 
-  unshared-id : shared c (id n) ≡ false
-  unfolding zeros u16 u32 headerFor recordOf chassisWith u16At u32At bridgeAt fpbAt portAt busClaims vectorClaims claimsId
+  unshared-id : faulty Shared c (id n) ≡ false
+  unfolding zeros u16 u32 headerFor recordOf chassisWith u16At u32At bridgeAt fpbAt portAt recordAt busClaims vectorClaims claimsId
   unshared-id = unshared-where 4 n refl held-apart
 
-  unstrayed-id : stray c (id n) ≡ false
-  unfolding zeros u16 u32 headerFor recordOf chassisWith u16At u32At bridgeAt fpbAt portAt busClaims vectorClaims claimsId holds anyBelow straysAt stray
+  unstrayed-id : faulty Stray c (id n) ≡ false
+  unfolding zeros u16 u32 headerFor recordOf chassisWith u16At u32At bridgeAt fpbAt portAt recordAt busClaims vectorClaims claimsId holds anyBelow straysAt faulty
   unstrayed-id =
       simp (
         either-or 0x0100 n (λ m. c .claims 1 (id m)) (λ m. not (c .claims 0 (id m))) refl
@@ -85,48 +85,31 @@ module _ (n : ℕ) where
             (rw (buses n .1, buses n .3) (within 4 4 2 4 (busOf n) (omega arith) (omega arith))),
       )
 
-  unshared-address : shared c (Addr n) ≡ false
-  unfolding zeros u16 u32 headerFor recordOf chassisWith u16At u32At portAt holds anyBelow clash clashesWith shared
+  unshared-address : faulty Shared c (Addr n) ≡ false
+  unfolding zeros u16 u32 headerFor recordOf chassisWith u16At u32At portAt recordAt holds anyBelow clash clashesWith faulty
   unshared-address = simp (windows n .3, and-false)
 
-  unstrayed-address : stray c (Addr n) ≡ false
-  unfolding zeros u16 u32 headerFor recordOf chassisWith u16At u32At portAt holds anyBelow straysAt stray
+  unstrayed-address : faulty Stray c (Addr n) ≡ false
+  unfolding zeros u16 u32 headerFor recordOf chassisWith u16At u32At portAt recordAt holds anyBelow straysAt faulty
   unstrayed-address = simp (windows n .0, windows n .1, windows n .2, windows n .3, never-both)
 
 -- no own ID is lost
 kept : anyBelow (ownIdLost c) (c .tree .count) ≡ false
-unfolding zeros u16 u32 headerFor recordOf chassisWith u16At u32At bridgeAt fpbAt portAt withAri busClaims vectorClaims claimsId inSecondaryRange convertedByBus converted anyBelow ownIdLost
+unfolding zeros u16 u32 headerFor recordOf chassisWith u16At u32At bridgeAt fpbAt portAt recordAt withAri busClaims vectorClaims claimsId inSecondaryRange convertedByBus converted anyBelow ownIdLost
 kept = refl
 
-says-clear : SaysClear c
-says-clear =
-    record {
-      unshared = unshared;
-      unstrayed = unstrayed;
-      kept = anyBelow-false (ownIdLost c) (c .tree .count) .0 kept;
-    }
+says-clear : Says c Clear
+says-clear = (no-fault, anyBelow-false (ownIdLost c) (c .tree .count) .0 kept)
   where
-    unshared : NoneWith (shared c)
-    unshared (Id rid) l = unshared-id (rid .0)
-    unshared (Addr a) l = unshared-address a
-
-    unstrayed : NoneWith (stray c)
-    unstrayed (Id rid) l = unstrayed-id (rid .0)
-    unstrayed (Addr a) l = unstrayed-address a
-
--- where nothing is found the verdict is Clear
-clear-where : (d : Chassis) → SaysClear d → verdictOf d ≡ Clear
-clear-where d none = go (verdictOf d) (verdict-says d)
-  where
-    go : (v : Verdict) → Says d v → v ≡ Clear
-    go Clear says = refl
-    go (Shared t p q) says = never-both-values _ (says .least .passes) (none .unshared t (says .least .in-range))
-    go (Stray t p) says = never-both-values _ (says .least .passes) (none .unstrayed t (says .least .in-range))
-    go (Lost p) says = never-both-values _ (says .port .passes) (none .kept (p .0) (says .port .below))
+    no-fault : (fault : Fault) → NoneWith fault c
+    no-fault Shared (Id rid) l = unshared-id (rid .0)
+    no-fault Shared (Addr a) l = unshared-address a
+    no-fault Stray (Id rid) l = unstrayed-id (rid .0)
+    no-fault Stray (Addr a) l = unstrayed-address a
 
 pub worked-passes : checkNumber (checkAnswer worked) ≡ 0
-unfolding checkOf
-worked-passes = rw worked-reads (rw (clear-where c says-clear))
+unfolding checkOf checkFinding
+worked-passes = rw worked-reads (rw (verdict-exactly c Clear .1 says-clear))
 
 -- what demand 3 says of it
 pub worked-one-end : (t : Target) → InRange t → OneEnd (chassisOf worked) t

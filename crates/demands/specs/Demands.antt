@@ -1,35 +1,7 @@
 -- The three demands, of the very definitions that the public calls promise. Their proofs are in proofs/Demands.antt, under the same
 -- names in small letters: demand-1, demand-2, demand-3, overlap-exactly (of a picture that reads).
-use Prim.Native.Nat.{ℕ, _<_}
-use mathlib.Core.Bool.{Bool, true, false, _||_}
-use mathlib.Core.List.{List, [], _∷_, _++_}
-use mathlib.Core.Logic.{_↔_, _⊎_}
-use mathlib.Core.Path.{_≡_}
-use lib.Dec.{eqb}
-use lib.ListN.{length, replicate}
-use Rattle.ids.specs.declared.PortNo.{PortNo}
-use Rattle.ids.specs.declared.Rid.{Rid}
-use Rattle.ids.specs.declared.Target.{Target}
-use Rattle.chassis.specs.declared.Verdict.{Verdict}
-use Rattle.chassis.specs.declared.End.{End}
-use Rattle.chassis.specs.Chassis.{Chassis}
-use Rattle.chassis.specs.Findings.{Clashing, Says}
-use Rattle.chassis.specs.OneEnd.{InRange, OneEnd}
-use Rattle.chassis.specs.Walk.{Walk, comeTo}
-use Rattle.paths.specs.declared.Path.{Path}
-use Rattle.ids.specs.Ids.{noPort}
-use Rattle.picture.specs.Reading.{numberOf, reading as picture·reading}
-use Rattle.claims.specs.Claims.{chassisOf}
-use Rattle.judge.specs.declared.CheckAnswer.the-variants.{Judged}
-use Rattle.judge.specs.declared.WalkAnswer.{WalkAnswer}
-use Rattle.judge.specs.declared.Outcome.the-variants.{Ended}
-use Rattle.judge.specs.Checking.{checkAnswer, checkNumber}
-use Rattle.judge.specs.Claiming.{claimAnswer, claimNumber}
-use Rattle.judge.specs.Converting.{convertAnswer, convertNumber}
-use Rattle.judge.specs.Ends.{outcomeNumber}
-use Rattle.judge.specs.Walking.{packetOf, WalkGives}
-use Rattle.fiswalend.specs.Calls.{returned, written, WalkCall}
-use Rattle.fiswalend.specs.Checked.{checkBytes}
+mod Words
+use Words.*
 
 -- one of a list of numbers
 abbrev pub oneOf : List ℕ → ℕ → Bool
@@ -49,7 +21,7 @@ ofAsking = ofReading ++ (16 ∷ [])
 -- Demand 1: "Any bytes may be lent as a picture, with any ID, address or start. Each call ends with one answer from the paper's table."
 -- (That each call ends, and only reads the picture, is part of every proved contract.)
 pub record Demand1 (s : List ℕ) : Type 0 where
-  pub reading : oneOf ofReading (numberOf (picture·reading s)) ≡ true
+  pub reads : oneOf ofReading (numberOf (reading s)) ≡ true
   pub check : oneOf ofCheck (checkNumber (checkAnswer s)) ≡ true
   pub walk : (kind start target : ℕ) (a : WalkAnswer) → WalkGives s kind start target a → oneOf ofAsking (outcomeNumber (a .outcome)) ≡ true
   pub claim : (port : ℕ) (t : Target) → oneOf ofAsking (claimNumber (claimAnswer s port t)) ≡ true
@@ -58,7 +30,7 @@ pub record Demand1 (s : List ℕ) : Type 0 where
 -- and "an answer buffer too short stays untouched": what the controller's calls return, and the buffer after them, is one for each
 -- buffer before them, and 17 and that buffer itself where it is under 40 bytes
 pub record Demand1Buffer (s before : List ℕ) : Type 0 where
-  pub check : length before < 40 → (returned before (checkNumber (checkAnswer s)) ≡ 17) × (written before (checkBytes (checkAnswer s)) ≡ before)
+  pub check : length before < 40 → (returned before (checkNumber (checkAnswer s)) ≡ 17) × (written before (findingBytes (checkFinding (checkAnswer s))) ≡ before)
   pub walk : length before < 40 → (kind start target number : ℕ) (after : List ℕ) → WalkCall s kind start target before number after
       → (number ≡ 17) × (after ≡ before)
   pub only : (kind start target m n : ℕ) (x y : List ℕ) → WalkCall s kind start target before m x → WalkCall s kind start target before n y
@@ -69,11 +41,17 @@ pub record Names (path : Path) (ports : List PortNo) : Type 0 where
   pub count : path .count ≡ length ports
   pub places : (unused : ℕ) × (path .places ≡ ports ++ replicate unused noPort) × (length (path .places) ≡ 32)
 
--- Demand 2: "where each packet ends are as the .. change notices say .. with every port crossed named in order": the walk's answer
--- is the only one that the rules allow, and where it ends, its path names the ports crossed
-pub record Demand2 (s : List ℕ) (kind start target : ℕ) : Type 0 where
-  pub only : (a b : WalkAnswer) → WalkGives s kind start target a → WalkGives s kind start target b → a ≡ b
-  pub named : (a : WalkAnswer) (e : End) → WalkGives s kind start target a → a .outcome ≡ Ended e
+-- Demand 2: "For every picture that reads, what each port claims, how a configuration request is converted and where each packet ends
+-- are as the FPB and ARI change notices say .. with every port crossed named in order": each claim and each conversion is the
+-- definition's, the walk has an answer, it has only one, and where that ends, its path names the ports crossed
+pub record Demand2 (s : List ℕ) : Type 0 where
+  pub claims : (h : Header) → reading s ≡ Read h → (port : ℕ) → port < h .count → (t : Target)
+      → claimAnswer s port t ≡ Claimed (chassisOf s .claims port t)
+  pub converts : (h : Header) → reading s ≡ Read h → (port : ℕ) → port < h .count → (rid : Rid)
+      → convertAnswer s port rid ≡ Converted (chassisOf s .conversion port (Id rid))
+  pub answers : (kind start target : ℕ) → (a : WalkAnswer) × WalkGives s kind start target a
+  pub only : (kind start target : ℕ) (a b : WalkAnswer) → WalkGives s kind start target a → WalkGives s kind start target b → a ≡ b
+  pub named : (kind start target : ℕ) (a : WalkAnswer) (e : End) → WalkGives s kind start target a → a .outcome ≡ Ended e
       → (crossed : List PortNo) × Walk (chassisOf s) (packetOf kind target) (comeTo start) crossed e × Names (a .path) crossed
 
 -- Demand 3: "For any picture that passes the check and any ID or address: from the host and from every device port it comes to the same

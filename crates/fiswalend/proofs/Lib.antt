@@ -1,3 +1,3 @@
 pub mod Forty
-pub mod WalkCalls
 pub mod CheckCalls
+pub mod WalkCalls

@@ -23,10 +23,14 @@ use Rattle.judge.specs.declared.WalkAnswer.{WalkAnswer}
 use Rattle.judge.specs.Ends.{outcomeNumber}
 use Rattle.judge.specs.Walking.{packetOf, askedWrongly, refusedWalk, endedWalk, AskedGives, ReadGives, WalkGives}
 use Rattle.judge.proofs.Walks.{walk-only, sane-read, within-start}
-use Rattle.fiswalend.specs.Refusals.{refusalHead}
-use Rattle.fiswalend.specs.Walked.{endHead, outcomeHead, walkHead, walkBytes}
+use Rattle.chassis.specs.declared.End.{End}
+use Rattle.chassis.specs.declared.End.the-variants.{Device, Function, Host, Unsupported, Doubled}
+use Rattle.picture.specs.declared.Refusal.{Refusal}
+use Rattle.judge.specs.Refusals.{refusalFinding}
+use Rattle.fiswalend.specs.Walked.{endHead, outcomeBytes, walkBytes}
 use Rattle.fiswalend.specs.Calls.{tooShort, WalkLeaves, WalkCall}
 use Rattle.fiswalend.proofs.Forty.{under-40, has-40}
+use Rattle.fiswalend.proofs.CheckCalls.{first-byte as finding-number}
 
 -- a walk crosses at most 32 ports, so that the count fits its byte
 module _ (s : List ℕ) (kind start target : ℕ) (a : WalkAnswer) where
@@ -46,14 +50,25 @@ module _ (s : List ℕ) (kind start target : ℕ) (a : WalkAnswer) where
       go (NotRead r) read gives = rw gives (omega arith)
       go (Read h) read gives = asked-short h read (askedWrongly (treeOf s) kind start target) refl gives
 
+refusal-number : (r : Refusal) → refusalFinding r .number ≡ r .number
+unfolding refusalFinding
+refusal-number r = refl
+
 -- the first byte is the number
 pub first-byte : (a : WalkAnswer) → getD (walkBytes a) 0 0 ≡ outcomeNumber (a .outcome)
-unfolding walkBytes walkHead answerBytes headBytes outcomeHead refusalHead endHead
+unfolding walkBytes answerBytes headBytes
 first-byte a = go (a .outcome)
   where
-    go : (o : Outcome) → outcomeHead o (a .path .count) .number ≡ outcomeNumber o
-    go (Refused r) = refl
-    go (Ended e) = refl
+    ended : (e : End) → endHead e (a .path .count) .number ≡ 0
+    ended (Device p function) = refl
+    ended (Function p) = refl
+    ended Host = refl
+    ended (Unsupported p) = refl
+    ended (Doubled p q) = refl
+
+    go : (o : Outcome) → getD (outcomeBytes o (a .path)) 0 0 ≡ outcomeNumber o
+    go (Refused r) = finding-number (refusalFinding r) ∙ refusal-number r
+    go (Ended e) = ended e
 
 module _ (s : List ℕ) (kind start target : ℕ) (before : List ℕ) (number : ℕ) (after : List ℕ) where
   leaves : (short : Bool) → tooShort before ≡ short → WalkLeaves short s kind start target before number after

@@ -1,4 +1,3 @@
-pub mod Refusals
+pub mod Found
 pub mod Walked
-pub mod Checked
 pub mod Calls

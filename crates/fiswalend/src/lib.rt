@@ -2,8 +2,7 @@
 // must see to.
 mod buffers;
 mod check_call;
-mod checked;
-mod refusals;
+mod found;
 mod walk_call;
 mod walked;
 

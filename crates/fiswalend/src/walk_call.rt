@@ -1,6 +1,7 @@
 // The walk call.
 use crate::buffers::write;
 use crate::walked::walk_bytes;
+use answers::ANSWER_BYTES;
 ghost use Rattle.fiswalend.specs.Calls.{WalkCall};
 
 // Where a packet goes: the number, and the answer in the buffer.
@@ -14,7 +15,7 @@ pub extern "C" fn fpb_walk(
 ) -> u32
     ensures { λ r. ⌜ WalkCall (now (picture .entry)) kind start target (now (answer .entry)) r (now (answer .exit)) ⌝ }
 {
-    if answer.len() < 40 {
+    if answer.len() < ANSWER_BYTES {
         return 17;
     }
     write(

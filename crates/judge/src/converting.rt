@@ -7,14 +7,11 @@ use ids::Rid;
 use ids::Target;
 use picture::Reading;
 ghost use mathlib.Core.Path.{_≡_};
-ghost use Rattle.picture.specs.Reading.{reading};
-ghost use Rattle.judge.specs.Converting.{convertAnswer, convertNumber};
-ghost use Rattle.judge.specs.Refusals.{portNumber};
+ghost use Rattle.judge.specs.Converting.{convertAnswer};
 
 // Numbers 1 to 10, then 16 for a port beyond the count, else what the port makes of the request.
 pub fn convert(s: &[u8], port: u32, rid: Rid) -> ConvertAnswer
     ensures { λ r. ⌜ r ≡ convertAnswer (now (s .entry)) port rid ⌝ }
-    ensures { λ r. ⌜ convertNumber r ≡ portNumber (reading (now (s .entry))) port ⌝ }
 {
     let got = picture::read(s);
     let Reading::Read(h) = got else {

@@ -9,10 +9,12 @@ use chassis::Conversion;
 use chassis::End;
 use chassis::Verdict;
 pub use checking::check;
+pub use checking::check_finding;
 pub use claiming::claim;
 pub use converting::convert;
 use paths::Path;
 use picture::Refusal;
+pub use refusals::refusal_finding;
 pub use walking::walk;
 
 // Whether a port claims a target, or why that is not answered.

@@ -1,19 +1,21 @@
-// The refusals that the calls share: those of the reading, and number 16.
+// The refusals that the calls share: those of the reading, and number 16; and what is said of a refusal.
+use chassis::Finding;
+use chassis::Holders;
+use chassis::Shown;
 use ids::PortNo;
 use picture::Reading;
 use picture::Refusal;
 ghost use mathlib.Core.Path.{_≡_};
-ghost use Rattle.judge.specs.Refusals.{refusalOf, number16};
+ghost use Rattle.picture.specs.declared.Reading.the-variants.{Refused};
+ghost use Rattle.picture.specs.declared.Refusal.{Refusal};
+ghost use Rattle.judge.specs.Refusals.{number16, refusalFinding};
 
 // The refusal of a picture that does not read.
 pub fn refusal_of(got: Reading) -> Refusal
-    ensures { λ r. ⌜ r ≡ refusalOf got ⌝ }
+    ensures { λ r. ⌜ ((told : Refusal) → got ≡ Refused told → r ≡ told) ⌝ }
 {
     match got {
-        Reading::Read(_) => Refusal {
-            number: 0,
-            port: PortNo(255),
-        },
+        Reading::Read(_) => number_16(),
         Reading::Refused(r) => r,
     }
 }
@@ -24,6 +26,28 @@ pub fn number_16() -> Refusal
 {
     Refusal {
         number: 16,
-        port: PortNo(255),
+        port: PortNo::NONE,
+    }
+}
+
+// The port that a refusal names: one of numbers 6 to 10 names it.
+fn named_by(r: Refusal) -> Holders
+    ensures { λ h. ⌜ h ≡ refusalFinding r .ports ⌝ }
+{
+    let port = r.port;
+    if (6 <= r.number) & (r.number <= 10) {
+        return Holders::Only(port);
+    }
+    Holders::Nobody
+}
+
+// What is said of a refusal.
+pub fn refusal_finding(r: Refusal) -> Finding
+    ensures { λ f. ⌜ f ≡ refusalFinding r ⌝ }
+{
+    Finding {
+        number: r.number,
+        target: Shown::NoTarget,
+        ports: named_by(r),
     }
 }

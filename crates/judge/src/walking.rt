@@ -19,11 +19,14 @@ ghost use Rattle.chassis.specs.Walk.{comeTo};
 ghost use Rattle.trees.specs.Trees.{countOf, treeOf};
 ghost use Rattle.judge.specs.Walking.{packetOf, idTooLarge, isStart, askedWrongly, refusedWalk, endedWalk, WalkGives};
 
+// The start of a packet that comes from the host.
+const ROOT_START: u32 = 255;
+
 // An ID over FFFFh; an address may have 64 bits.
 fn id_too_large(kind: u32, target: u64) -> bool
     ensures { λ r. ⌜ r ≡ idTooLarge kind target ⌝ }
 {
-    !(kind == 1) & (65536 <= target)
+    (kind != 1) & (65536 <= target)
 }
 
 // The packet of a kind, 0 to 2, for a target that is no ID over FFFFh.
@@ -46,7 +49,7 @@ fn is_start(s: &[u8], n: u8, start: u32) -> bool
     requires { ⌜ n ≡ countOf (now s) ⌝ }
     ensures { λ r. ⌜ r ≡ isStart (treeOf (now (s .entry))) start ⌝ }
 {
-    if start == 255 {
+    if start == ROOT_START {
         return true;
     }
     let count = n as u32;
@@ -69,7 +72,7 @@ fn start_of(start: u32) -> Whereabouts
     requires { ⌜ start < 256 ⌝ }
     ensures { λ r. ⌜ r ≡ comeTo start ⌝ }
 {
-    if start == 255 {
+    if start == ROOT_START {
         return Whereabouts::Root;
     }
     Whereabouts::From(PortNo(start as u8))

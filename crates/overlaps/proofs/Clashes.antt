@@ -1,6 +1,6 @@
 -- Two ports' meeting is the clash, or the stray, that the paper speaks of. Assumes nothing.
 use Prim.Native.Nat.{ℕ}
-use mathlib.Core.Bool.{Bool, true, false, not, _&&_, _||_, Bool·beq}
+use mathlib.Core.Bool.{Bool, true, false, not, Bool·beq, or-false, and-comm}
 use mathlib.Core.Path.{_≡_, refl, sym, ap}
 use native.Mathlib.Decide.{ℕ-discrete}
 use lib.Dec.{eqb}
@@ -20,16 +20,6 @@ is-true false = refl
 is-false : (b : Bool) → Bool·beq b false ≡ not b
 is-false true = refl
 is-false false = refl
-
-or-false : (a : Bool) → (a || false) ≡ a
-or-false true = refl
-or-false false = refl
-
-and-comm : (a b : Bool) → (a && b) ≡ (b && a)
-and-comm true true = refl
-and-comm true false = refl
-and-comm false true = refl
-and-comm false false = refl
 
 same-either-way : (a b : ℕ) → eqb a b ≡ eqb b a
 same-either-way a b = go (ℕ-discrete a b)

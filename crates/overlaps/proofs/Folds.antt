@@ -1,6 +1,6 @@
 -- The least target over all pairs, or all ports, as the best of one after the other. Assumes nothing.
 use Prim.Native.Nat.{ℕ, _+_, _≤_, _<_}
-use mathlib.Core.Bool.{Bool, true, false, _||_}
+use mathlib.Core.Bool.{Bool, true, false, _||_, or-false, or-assoc}
 use mathlib.Core.Path.{_≡_, refl, sym, _∙_, ap}
 use native.Mathlib.Nat.{le-antisymm}
 use native.Mathlib.Numerals.{add-one}
@@ -11,31 +11,21 @@ use Rattle.least.specs.declared.Found.the-variants.{Nothing}
 use Rattle.least.specs.Least.{soonest}
 use Rattle.least.proofs.Laws.{none-is, first-agree, either-first, soonest-nothing}
 use Rattle.chassis.specs.Chassis.{Chassis, targetIn, spaceSize}
-use Rattle.chassis.specs.Check.{clash, clashesWith, shared, straysAt, stray, testIn, leastTarget}
+use Rattle.chassis.specs.declared.Fault.{Fault}
+use Rattle.chassis.specs.declared.Fault.the-variants.{Shared, Stray}
+use Rattle.chassis.specs.Check.{clash, clashesWith, straysAt, faulty, testIn, leastTarget}
 use Rattle.chassis.specs.Tree.{rootPort, anyBelow}
 use Rattle.chassis.proofs.Ports.{anyBelow-true, anyBelow-at}
-use Rattle.overlaps.specs.Overlaps.{meeting, clashOf, sharedTo, strayOf}
+use Rattle.overlaps.specs.Overlaps.{meeting, clashOf, faultyTo}
 use Rattle.overlaps.proofs.Clashes.{clash-turned, firstSide, secondSide, clash-meets, no-clash, held, claimed, stray-meets, no-stray}
-
-or-false : (a : Bool) → (a || false) ≡ a
-or-false true = refl
-or-false false = refl
-
-or-assoc : (a b c : Bool) → (a || (b || c)) ≡ (a || b || c)
-or-assoc true b c = refl
-or-assoc false b c = refl
 
 -- the pairs of the first p ports, and of port p with the first q
 unfoldable pub seen : Chassis → ℕ → ℕ → Target → Bool
-seen c p q t = sharedTo c p t || anyBelow (clash c t p) q
-
--- the first k ports
-unfoldable pub strayTo : Chassis → ℕ → Target → Bool
-strayTo c k t = anyBelow (straysAt c t) k
+seen c p q t = faultyTo Shared c p t || anyBelow (clash c t p) q
 
 -- the pairs of port p with the ports before it were seen as pairs of those
-seen-before : (c : Chassis) (t : Target) (p : ℕ) → p < c .tree .count → sharedTo c p t ≡ seen c p p t
-unfolding seen sharedTo clashesWith
+seen-before : (c : Chassis) (t : Target) (p : ℕ) → p < c .tree .count → faultyTo Shared c p t ≡ seen c p p t
+unfolding seen faultyTo clashesWith
 seen-before c t p l = go (anyBelow (clash c t p) p) refl
   where
     go : (b : Bool) → anyBelow (clash c t p) p ≡ b
@@ -62,22 +52,8 @@ module _ (c : Chassis) (space : Space) where
   unfolding clashOf
   no-pair p q best apart = nothing-better best (clashOf c p q) (λ t. no-clash c t p q apart)
 
-  -- one port
-  pub child-first : (p : ℕ) → (c .tree .kind p ≡ rootPort → ⊥)
-      → leastTarget (meeting c (held p) (claimed (c .tree .parent p)) false) space ≡ leastTarget (strayOf c p) space
-  unfolding testIn strayOf
-  child-first p e = first-agree (λ t l h. stray-meets c (targetIn space t) p e)
-
-  pub no-child : (p : ℕ) (best : Found) → c .tree .kind p ≡ rootPort → best ≡ soonest best (leastTarget (strayOf c p) space)
-  unfolding strayOf
-  no-child p best e = nothing-better best (strayOf c p) (λ t. no-stray c t p e)
-
-  -- all pairs: nothing at first, a row at a time, a pair at a time
-  pub pairs-begin : Nothing ≡ leastTarget (sharedTo c 0) space
-  unfolding testIn sharedTo anyBelow
-  pairs-begin = none-is (record { none = λ i l h. refl })
-
-  pub row-begins : (p : ℕ) → p < c .tree .count → leastTarget (sharedTo c p) space ≡ leastTarget (seen c p p) space
+  -- all pairs: a row at a time, a pair at a time
+  pub row-begins : (p : ℕ) → p < c .tree .count → leastTarget (faultyTo Shared c p) space ≡ leastTarget (seen c p p) space
   unfolding testIn
   row-begins p l = first-agree (λ t k h. seen-before c (targetIn space t) p l)
 
@@ -86,25 +62,35 @@ module _ (c : Chassis) (space : Space) where
   row-more p q =
       rw add-one
       (either-first _ _ 0 (spaceSize space)
-      (λ t. or-assoc (sharedTo c p (targetIn space t)) (anyBelow (clash c (targetIn space t) p) q) (clash c (targetIn space t) p q)))
+      (λ t. sym (or-assoc (faultyTo Shared c p (targetIn space t)) (anyBelow (clash c (targetIn space t) p) q) (clash c (targetIn space t) p q))))
 
-  pub row-ends : (p : ℕ) {q n : ℕ} → q ≤ n → n ≤ q → n ≡ c .tree .count → leastTarget (seen c p q) space ≡ leastTarget (sharedTo c (p + 1)) space
-  unfolding testIn seen sharedTo clashesWith anyBelow
+  pub row-ends : (p : ℕ) {q n : ℕ} → q ≤ n → n ≤ q → n ≡ c .tree .count → leastTarget (seen c p q) space ≡ leastTarget (faultyTo Shared c (p + 1)) space
+  unfolding testIn seen faultyTo clashesWith anyBelow
   row-ends p l k e = rw (le-antisymm l k ∙ e, add-one)
 
-  pub pairs-end : {p n : ℕ} → p ≤ n → n ≤ p → n ≡ c .tree .count → leastTarget (sharedTo c p) space ≡ leastTarget (shared c) space
-  unfolding testIn sharedTo shared
-  pairs-end l k e = rw (le-antisymm l k ∙ e)
+  -- one port more: what it lets stray, or nothing of a root port
+  child-more : (p : ℕ) (test : Target → Bool) → ((t : Target) → test t ≡ straysAt c t p)
+      → soonest (leastTarget (faultyTo Stray c p) space) (leastTarget test space) ≡ leastTarget (faultyTo Stray c (p + 1)) space
+  unfolding testIn faultyTo anyBelow
+  child-more p test same =
+      rw add-one
+      (either-first _ _ 0 (spaceSize space) (λ t. ap (λ (b : Bool). anyBelow (straysAt c (targetIn space t)) p || b) (sym (same (targetIn space t)))))
 
-  -- all ports: nothing at first, a port at a time
-  pub ports-begin : Nothing ≡ leastTarget (strayTo c 0) space
-  unfolding testIn strayTo anyBelow
-  ports-begin = none-is (record { none = λ i l h. refl })
+  pub with-stray : (p : ℕ) {best : Found} → best ≡ leastTarget (faultyTo Stray c p) space → (c .tree .kind p ≡ rootPort → ⊥)
+      → soonest best (leastTarget (meeting c (held p) (claimed (c .tree .parent p)) false) space) ≡ leastTarget (faultyTo Stray c (p + 1)) space
+  with-stray p e other = rw e (child-more p _ (λ t. stray-meets c t p other))
 
-  pub ports-more : (p : ℕ) → soonest (leastTarget (strayTo c p) space) (leastTarget (strayOf c p) space) ≡ leastTarget (strayTo c (p + 1)) space
-  unfolding testIn strayTo strayOf anyBelow
-  ports-more p = rw add-one (either-first _ _ 0 (spaceSize space) (λ t. refl))
+  pub without-stray : (p : ℕ) {best : Found} → best ≡ leastTarget (faultyTo Stray c p) space → c .tree .kind p ≡ rootPort
+      → best ≡ leastTarget (faultyTo Stray c (p + 1)) space
+  without-stray p {best} e is =
+      nothing-better best (λ t. straysAt c t p) (λ t. no-stray c t p is) ∙ rw e (child-more p (λ t. straysAt c t p) (λ t. refl))
 
-  pub ports-end : {p n : ℕ} → p ≤ n → n ≤ p → n ≡ c .tree .count → leastTarget (strayTo c p) space ≡ leastTarget (stray c) space
-  unfolding testIn strayTo stray
-  ports-end l k e = rw (le-antisymm l k ∙ e)
+  -- all ports: nothing at first, all at the end
+  pub faults-begin : (fault : Fault) → Nothing ≡ leastTarget (faultyTo fault c 0) space
+  unfolding testIn faultyTo anyBelow
+  faults-begin fault = none-is (record { none = λ i l h. refl })
+
+  pub faults-end : (fault : Fault) {p n : ℕ} → p ≤ n → n ≤ p → n ≡ c .tree .count
+      → leastTarget (faultyTo fault c p) space ≡ leastTarget (faulty fault c) space
+  unfolding testIn faultyTo faulty
+  faults-end fault l k e = rw (le-antisymm l k ∙ e)

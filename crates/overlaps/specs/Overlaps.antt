@@ -1,9 +1,10 @@
--- What ports share or let stray, as tests of the target that a search for the least one runs over.
+-- What two ports have to do with a target, as tests of the target that a search for the least one runs over.
 use Prim.Native.Nat.{ℕ}
 use mathlib.Core.Bool.{Bool, _&&_, _||_, Bool·beq}
 use Rattle.ids.specs.declared.Target.{Target}
 use Rattle.chassis.specs.Chassis.{Chassis, isOwn}
-use Rattle.chassis.specs.Check.{clash, clashesWith, straysAt}
+use Rattle.chassis.specs.declared.Fault.{Fault}
+use Rattle.chassis.specs.Check.{clash, atFault}
 use Rattle.chassis.specs.Tree.{anyBelow}
 use Rattle.overlaps.specs.declared.meetings.Holding.{Holding}
 
@@ -18,9 +19,6 @@ meeting c a b want t = has c a t && Bool·beq (has c b t) want
 unfoldable pub clashOf : Chassis → ℕ → ℕ → Target → Bool
 clashOf c p q t = clash c t p q
 
--- one of the first k ports clashes with some port
-unfoldable pub sharedTo : Chassis → ℕ → Target → Bool
-sharedTo c k t = anyBelow (clashesWith c t) k
-
-unfoldable pub strayOf : Chassis → ℕ → Target → Bool
-strayOf c p t = straysAt c t p
+-- one of the first k ports is at fault
+unfoldable pub faultyTo : Fault → Chassis → ℕ → Target → Bool
+faultyTo fault c k t = anyBelow (atFault fault c t) k

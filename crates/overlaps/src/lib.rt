@@ -1,8 +1,8 @@
-// The least target of a space that two ports share, and the least that strays from its parent; for IDs and addresses by
-// the same search.
+// The least target of a space at which some port is at fault: two ports share it, or it strays from its parent; for IDs and
+// addresses, and for either fault, by the same search.
+mod faults;
 mod meetings;
 mod pairs;
 mod strays;
 
-pub use pairs::least_shared;
-pub use strays::least_stray;
+pub use faults::least_fault;

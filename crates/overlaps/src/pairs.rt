@@ -8,17 +8,18 @@ use registers::parent_at;
 ghost use mathlib.Core.Path.{_≡_};
 ghost use Prim.Native.Nat.{_+_, _<_};
 ghost use Rattle.least.specs.Least.{soonest};
-ghost use Rattle.chassis.specs.Check.{shared, leastTarget};
+ghost use Rattle.chassis.specs.declared.Fault.the-variants.{Shared};
+ghost use Rattle.chassis.specs.Check.{leastTarget};
 ghost use Rattle.trees.specs.Trees.{countOf};
 ghost use Rattle.claims.specs.Claims.{chassisOf};
-ghost use Rattle.overlaps.specs.Overlaps.{clashOf, sharedTo};
+ghost use Rattle.overlaps.specs.Overlaps.{clashOf, faultyTo};
 
 // The best so far, after ports p and q were tried; a port with itself is its own ID against its claims.
 fn with_pair(s: &[u8], space: Space, p: PortNo, q: PortNo, best: Found) -> Found
     ensures { λ r. ⌜ r ≡ soonest best (leastTarget (clashOf (chassisOf (now (s .entry))) (p .0) (q .0)) space) ⌝ }
 {
     if parent_at(s, p).0 == parent_at(s, q).0 {
-        let apart = !(p.0 == q.0);
+        let apart = p.0 != q.0;
         let a = Holding {
             port: p,
             own: true,
@@ -36,11 +37,11 @@ fn with_pair(s: &[u8], space: Space, p: PortNo, q: PortNo, best: Found) -> Found
 }
 
 // The best so far, after port p was tried with itself and with each later one; the earlier ones were tried with it.
-fn with_port(s: &[u8], n: u8, space: Space, p: u8, best: Found) -> Found
+pub fn with_pairs(s: &[u8], n: u8, space: Space, p: u8, best: Found) -> Found
     requires { ⌜ n ≡ countOf (now s) ⌝ }
     requires { ⌜ p < n ⌝ }
-    requires { ⌜ best ≡ leastTarget (sharedTo (chassisOf (now s)) p) space ⌝ }
-    ensures { λ r. ⌜ r ≡ leastTarget (sharedTo (chassisOf (now (s .entry))) (p + 1)) space ⌝ }
+    requires { ⌜ best ≡ leastTarget (faultyTo Shared (chassisOf (now s)) p) space ⌝ }
+    ensures { λ r. ⌜ r ≡ leastTarget (faultyTo Shared (chassisOf (now (s .entry))) (p + 1)) space ⌝ }
 {
     let mut found = best;
     let mut q: u8 = p;
@@ -49,18 +50,4 @@ fn with_port(s: &[u8], n: u8, space: Space, p: u8, best: Found) -> Found
         q += 1;
     }
     found
-}
-
-// The least target of a space that is shared, over all pairs of n ports at all places.
-pub fn least_shared(s: &[u8], n: u8, space: Space) -> Found
-    requires { ⌜ n ≡ countOf (now s) ⌝ }
-    ensures { λ r. ⌜ r ≡ leastTarget (shared (chassisOf (now (s .entry)))) space ⌝ }
-{
-    let mut best = Found::Nothing;
-    let mut p: u8 = 0;
-    while p < n {
-        best = with_port(s, n, space, p, best);
-        p += 1;
-    }
-    best
 }

@@ -3,9 +3,7 @@
 use libc::STDIN_FILENO;
 
 fn print_lines(picture: &[u8]) {
-    texts::report_text(picture, judge::check(picture), b'\n')
-        .with(b"\n")
-        .print();
+    reports::report(picture, b'\n').with(b"\n").print();
 }
 
 // One byte more than a picture may have, so that a longer input shows.

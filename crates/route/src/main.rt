@@ -74,5 +74,5 @@ fn main() {
         numbers::clamped(start),
         target,
     );
-    texts::walk_text(answer, kind == 2).with(b"\n").print();
+    reports::walked(kind == 2, answer).with(b"\n").print();
 }

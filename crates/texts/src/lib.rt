@@ -65,7 +65,7 @@ impl Text {
     }
 
     // The text with a hexadecimal number behind it, in so many digits.
-    fn with_hex(self, n: u64, width: usize) -> Text
+    pub fn with_hex(self, n: u64, width: usize) -> Text
         requires { ⌜ 0 < width ⌝ }
         requires { ⌜ width ≤ 16 ⌝ }
         requires { ⌜ n < 16 ^ width ⌝ }

@@ -1,25 +1,25 @@
-// The check's verdict: numbers 11 to 15, the lowest that applies, with its least target and the ports that it names.
+// The check's verdict: the rows of the table one after the other, each with its least target and the ports that it names.
+use chassis::Fault;
+use chassis::Row;
 use chassis::Verdict;
-use culprits::Fault;
+use culprits::PortFault;
 use culprits::first_pair;
 use culprits::lowest;
 use culprits::lowest_stray;
+use ids::PortNo;
 use ids::Rid;
 use ids::Space;
 use ids::Target;
 use least::Found;
-use overlaps::least_shared;
-use overlaps::least_stray;
-use picture::Culprit;
+use overlaps::least_fault;
 ghost use mathlib.Core.Bool.{true};
 ghost use mathlib.Core.Path.{_≡_};
 ghost use Prim.Native.Nat.{_<_};
-ghost use Rattle.chassis.specs.declared.Verdict.the-variants.{Shared, Stray};
+ghost use Rattle.least.specs.Least.{firstIn};
 ghost use Rattle.chassis.specs.Chassis.{targetIn, spaceSize};
-ghost use Rattle.chassis.specs.Check.{shared, straysAt, firstOfPair, secondOfPair, lowestPort, verdictOf};
+ghost use Rattle.chassis.specs.Check.{ownIdLost, faulty, leastTarget, verdictAt, atLeast, lostAt, rowOf, orNext, verdictOf};
 ghost use Rattle.trees.specs.Trees.{countOf};
 ghost use Rattle.claims.specs.Claims.{chassisOf};
-ghost use Rattle.verdicts.specs.Verdicts.{from12, from13, from14, from15};
 
 // The target of a space by its number.
 fn target_in(space: Space, t: u64) -> Target
@@ -32,77 +32,77 @@ fn target_in(space: Space, t: u64) -> Target
     }
 }
 
-// Number 11 or 12, at the least target.
-fn shared_at(s: &[u8], n: u8, t: Target) -> Verdict
+// What a faulty target shows: the first pair at it, or the lowest port.
+fn verdict_at(s: &[u8], n: u8, fault: Fault, t: Target) -> Verdict
     requires { ⌜ n ≡ countOf (now s) ⌝ }
-    requires { ⌜ shared (chassisOf (now s)) t ≡ true ⌝ }
-    ensures { λ r. ⌜ r ≡ Shared t (firstOfPair (chassisOf (now (s .entry))) t) (secondOfPair (chassisOf (now (s .entry))) t) ⌝ }
+    requires { ⌜ faulty fault (chassisOf (now s)) t ≡ true ⌝ }
+    ensures { λ r. ⌜ r ≡ verdictAt (chassisOf (now (s .entry))) fault t ⌝ }
 {
-    let pair = first_pair(s, n, t);
-    let first = pair.first;
-    let second = pair.second;
-    Verdict::Shared(t, first, second)
-}
-
-// Number 13 or 14, at the least target.
-fn stray_at(s: &[u8], n: u8, t: Target) -> Verdict
-    requires { ⌜ n ≡ countOf (now s) ⌝ }
-    ensures { λ r. ⌜ r ≡ Stray t (lowestPort (chassisOf (now (s .entry))) (straysAt (chassisOf (now (s .entry))) t)) ⌝ }
-{
-    Verdict::Stray(t, lowest_stray(s, n, t))
-}
-
-// Number 15, or none.
-fn from_15(s: &[u8], n: u8) -> Verdict
-    requires { ⌜ n ≡ countOf (now s) ⌝ }
-    ensures { λ r. ⌜ r ≡ from15 (chassisOf (now (s .entry))) ⌝ }
-{
-    match lowest(s, n, Fault::Lost) {
-        Culprit::Port(p) => Verdict::Lost(p),
-        Culprit::Nobody => Verdict::Clear,
+    match fault {
+        Fault::Shared => {
+            let pair = first_pair(s, n, t);
+            let first = pair.first;
+            let second = pair.second;
+            Verdict::Shared(t, first, second)
+        }
+        Fault::Stray => Verdict::Stray(t, lowest_stray(s, n, t)),
     }
 }
 
-// Number 14, or a higher one.
-fn from_14(s: &[u8], n: u8) -> Verdict
+// Numbers 11 to 14: a fault at the least target of a space.
+fn fault_in(s: &[u8], n: u8, fault: Fault, space: Space) -> Verdict
     requires { ⌜ n ≡ countOf (now s) ⌝ }
-    ensures { λ r. ⌜ r ≡ from14 (chassisOf (now (s .entry))) ⌝ }
+    ensures { λ r. ⌜ r ≡ atLeast (chassisOf (now (s .entry))) fault space (leastTarget (faulty fault (chassisOf (now (s .entry)))) space) ⌝ }
 {
-    match least_stray(s, n, Space::Addresses) {
-        Found::At(t) => stray_at(s, n, target_in(Space::Addresses, t)),
-        Found::Nothing => from_15(s, n),
+    match least_fault(s, n, fault, space) {
+        Found::At(t) => verdict_at(s, n, fault, target_in(space, t)),
+        Found::Nothing => Verdict::Clear,
     }
 }
 
-// Number 13, or a higher one.
-fn from_13(s: &[u8], n: u8) -> Verdict
+// Number 15.
+fn own_id_lost(s: &[u8], n: u8) -> Verdict
     requires { ⌜ n ≡ countOf (now s) ⌝ }
-    ensures { λ r. ⌜ r ≡ from13 (chassisOf (now (s .entry))) ⌝ }
+    ensures { λ r. ⌜ r ≡ lostAt (firstIn (ownIdLost (chassisOf (now (s .entry)))) 0 (countOf (now (s .entry)))) ⌝ }
 {
-    match least_stray(s, n, Space::Ids) {
-        Found::At(t) => stray_at(s, n, target_in(Space::Ids, t)),
-        Found::Nothing => from_14(s, n),
+    match lowest(s, n, PortFault::Lost) {
+        Found::At(p) => Verdict::Lost(PortNo(p as u8)),
+        Found::Nothing => Verdict::Clear,
     }
 }
 
-// Number 12, or a higher one.
-fn from_12(s: &[u8], n: u8) -> Verdict
+// What a row of the table finds in a picture of n ports, whatever the other rows find.
+pub fn of_row(s: &[u8], n: u8, row: Row) -> Verdict
     requires { ⌜ n ≡ countOf (now s) ⌝ }
-    ensures { λ r. ⌜ r ≡ from12 (chassisOf (now (s .entry))) ⌝ }
+    ensures { λ r. ⌜ r ≡ rowOf (chassisOf (now (s .entry))) row ⌝ }
 {
-    match least_shared(s, n, Space::Addresses) {
-        Found::At(t) => shared_at(s, n, target_in(Space::Addresses, t)),
-        Found::Nothing => from_13(s, n),
+    match row {
+        Row::At(fault, space) => fault_in(s, n, fault, space),
+        Row::Lost => own_id_lost(s, n),
     }
 }
 
-// The lowest of numbers 11 to 15 that applies to a picture of n ports.
+// The verdict of the rows before, or what the next row finds, which is looked for only where they are clear.
+fn or_row(s: &[u8], n: u8, before: Verdict, next: Row) -> Verdict
+    requires { ⌜ n ≡ countOf (now s) ⌝ }
+    ensures { λ r. ⌜ r ≡ orNext before (rowOf (chassisOf (now (s .entry))) next) ⌝ }
+{
+    match before {
+        Verdict::Clear => of_row(s, n, next),
+        Verdict::Shared(t, p, q) => Verdict::Shared(t, p, q),
+        Verdict::Stray(t, p) => Verdict::Stray(t, p),
+        Verdict::Lost(p) => Verdict::Lost(p),
+    }
+}
+
+// The first row that is not clear, of a picture of n ports.
 pub fn verdict(s: &[u8], n: u8) -> Verdict
     requires { ⌜ n ≡ countOf (now s) ⌝ }
     ensures { λ r. ⌜ r ≡ verdictOf (chassisOf (now (s .entry))) ⌝ }
 {
-    match least_shared(s, n, Space::Ids) {
-        Found::At(t) => shared_at(s, n, target_in(Space::Ids, t)),
-        Found::Nothing => from_12(s, n),
-    }
+    let shared_id = of_row(s, n, Row::At(Fault::Shared, Space::Ids));
+    let shared = or_row(s, n, shared_id, Row::At(Fault::Shared, Space::Addresses));
+    let stray_id = or_row(s, n, shared, Row::At(Fault::Stray, Space::Ids));
+    let stray = or_row(s, n, stray_id, Row::At(Fault::Stray, Space::Addresses));
+    or_row(s, n, stray, Row::Lost)
 }

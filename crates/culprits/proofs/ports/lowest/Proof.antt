@@ -1,9 +1,9 @@
 use Rattle.culprits.specs.Culprits.{hasFault}
-use Rattle.picture.proofs.Laws.{culprit-here, culprit-nowhere}
-use Rattle.least.proofs.Laws.{NoneIn, none-empty, none-more}
+use native.Mathlib.Nat.{le-refl}
+use Rattle.least.proofs.Laws.{NoneIn, none-empty, none-more, none-part, at-is, none-is}
 use Rattle.claims.specs.Claims.{chassisOf}
 use native.Mathlib.Omega.{arith}
-use Prim.Native.Nat.{_≤_, _-_}
+use Prim.Native.Nat.{_≤_, _-_, zero-le}
 use mathlib.Core.Path.{sym, _∙_}
 use Rattle.culprits.proofs.ports.lowest.Statement.{statement}
 use Rattle.culprits.proofs.ports.lowest.Tie as tie
@@ -18,13 +18,20 @@ loop-holds : tie.Need-loop-holds Inv-loop μ-loop
 loop-holds c = (omega arith, none-empty (omega arith))
 
 returns : tie.Need-returns Inv-loop μ-loop
-returns c = culprit-here _ _ _ (rw (c .before .before .before .before .before .pre) at (c .before .before .loop-test .taken)) (sym (c .before .has-fault .ensures) ∙ c .if1 .taken) (c .before .before .before .loop .inv .1)
+returns c =
+    at-is
+    (record {
+      from = zero-le;
+      below = rw (c .before .before .before .before .before .pre) at (c .before .before .loop-test .taken);
+      holds = sym (c .before .has-fault .ensures) ∙ c .if1 .taken;
+      first = c .before .before .before .loop .inv .1;
+    })
 
 loop-again : tie.Need-loop-again Inv-loop μ-loop
 loop-again c = (omega arith, none-more (c .before .before .before .loop .inv .1) (sym (c .before .has-fault .ensures) ∙ c .if1 .left))
 
 returns-2 : tie.Need-returns-2 Inv-loop μ-loop
-returns-2 c = culprit-nowhere _ _ _ (rw (c .before .before .before .pre) at (c .loop-test .left)) (rw (c .before .before .before .pre) at (c .before .loop .inv .0)) (c .before .loop .inv .1)
+returns-2 c = none-is (none-part (le-refl _) (rw (c .before .before .before .pre) at (c .loop-test .left)) (c .before .loop .inv .1))
 
 pub lowest-spec : {M : Type 1} → statement M
 lowest-spec =
@@ -34,6 +41,7 @@ lowest-spec =
     μ-loop
     loop-holds
     (λ c κs. tt)
+    (λ c. omega arith)
     returns
     (λ c. omega arith)
     (λ c. omega arith)

@@ -5,7 +5,7 @@ use Rattle.culprits.proofs.ports.own_id_lost.Tie as tie
 
 returns : tie.Need-returns
 unfolding ownIdLost
-returns c = rw (c .before .before .before .kind-at .ensures, c .is-type0 .ensures, c .before .conversion .ensures, c .before .before .claims .ensures, c .before .before .before .before .before .parent-at .ensures, c .before .before .before .before .own-id .ensures)
+returns c = rw (c .before .before .before .kind-at .ensures, c .is-type0 .ensures, c .before .conversion .ensures, c .before .before .claims .ensures, c .before .before .before .before .before .parent-at .ensures, c .before .before .before .before .own-id-at .ensures)
 
 pub own-id-lost-spec : {M : Type 1} → statement M
 own-id-lost-spec =

@@ -1,5 +1,4 @@
 use Rattle.judge.proofs.Walks.{count-read, count-few}
-use Rattle.judge.specs.Refusals.{refusalOf}
 use Rattle.judge.specs.Checking.{checkOf}
 use Rattle.judge.specs.declared.CheckAnswer.the-variants.{Refused, Judged}
 use native.Mathlib.Omega.{arith}
@@ -10,7 +9,7 @@ use Rattle.judge.proofs.checking.check.Tie as tie
 
 returns : tie.Need-returns
 unfolding checkOf
-returns c = rw (← c .before .before .before .read .ensures, c .before .enum-told .given .1) (ap Refused (c .refusal-of .ensures ∙ ap refusalOf (c .before .enum-told .given .1)))
+returns c = rw (← c .before .before .before .read .ensures, c .before .enum-told .given .1) (ap Refused (c .refusal-of .ensures _ (c .before .enum-told .given .1)))
 
 cast-verdict : tie.Need-cast-verdict
 cast-verdict c = omega (arith, count-few _ _ (sym (c .before .before .before .before .read .ensures) ∙ c .before .before .got .given .1))

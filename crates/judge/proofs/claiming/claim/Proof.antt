@@ -1,5 +1,4 @@
 use Rattle.judge.proofs.Walks.{count-few}
-use Rattle.judge.proofs.Laws.{claim-numbered}
 use native.Mathlib.Omega.{arith}
 use mathlib.Core.Path.{sym, _∙_}
 use borrow.Author.Tests.{le-ltb, lt-ltb}
@@ -10,18 +9,18 @@ use Rattle.judge.proofs.claiming.claim.Tie as tie
 
 returns : tie.Need-returns
 unfolding claimOf
-returns c = claim-numbered _ _ _ _ (rw (c .refusal-of .ensures, ← c .before .before .before .read .ensures, c .before .enum-told .given .1))
+returns c = rw (c .refusal-of .ensures _ (c .before .enum-told .given .1), ← c .before .before .before .read .ensures, c .before .enum-told .given .1)
 
 returns-2 : tie.Need-returns-2
 unfolding claimOf
-returns-2 c = claim-numbered _ _ _ _ (rw (c .number-16 .ensures, ← c .before .before .before .before .before .before .read .ensures, c .before .before .before .before .got .given .1) (simp (le-ltb _ _ (c .before .if1 .taken))))
+returns-2 c = rw (c .number-16 .ensures, ← c .before .before .before .before .before .before .read .ensures, c .before .before .before .before .got .given .1) (simp (le-ltb _ _ (c .before .if1 .taken)))
 
 cast-t10 : tie.Need-cast-t10
 cast-t10 c = omega (arith, count-few _ _ (sym (c .before .before .before .before .before .read .ensures) ∙ c .before .before .before .got .given .1))
 
 returns-3 : tie.Need-returns-3
 unfolding claimOf
-returns-3 c = claim-numbered _ _ _ _ (rw (c .claims .ensures, ← c .before .before .before .before .before .before .read .ensures, c .before .before .before .before .got .given .1) (simp (lt-ltb _ _ (c .before .if1 .left))))
+returns-3 c = rw (c .claims .ensures, ← c .before .before .before .before .before .before .read .ensures, c .before .before .before .before .got .given .1) (simp (lt-ltb _ _ (c .before .if1 .left)))
 
 pub claim-spec : {M : Type 1} → statement M
 claim-spec =

@@ -1,4 +1,3 @@
-use Rattle.judge.specs.Refusals.{refusalOf}
 use Rattle.judge.specs.Walking.{refusedWalk}
 use mathlib.Core.Path.{ap}
 use Rattle.judge.proofs.Walks.{gives-unread, gives-16, gives-end, count-read, count-few, sane-read, id-fits, small-start, within-start}
@@ -11,7 +10,7 @@ use Rattle.judge.proofs.walking.walk.Tie as tie
 returns : tie.Need-returns
 returns c =
     gives-unread _ _ _ _ _ _ (sym (c .before .before .before .before .read .ensures) ∙ c .before .before .enum-told .given .1)
-    (c .refused .ensures ∙ ap refusedWalk (c .before .refusal-of .ensures ∙ ap refusalOf (c .before .before .enum-told .given .1)))
+    (c .refused .ensures ∙ ap refusedWalk (c .before .refusal-of .ensures _ (c .before .before .enum-told .given .1)))
 
 cast-n : tie.Need-cast-n
 cast-n c = omega (arith, count-few _ _ (sym (c .before .before .before .before .read .ensures) ∙ c .before .before .got .given .1))

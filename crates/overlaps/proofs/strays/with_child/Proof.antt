@@ -1,5 +1,5 @@
 use Rattle.claims.specs.Claims.{chassisOf}
-use Rattle.overlaps.proofs.Folds.{child-first, no-child}
+use Rattle.overlaps.proofs.Folds.{with-stray, without-stray}
 use Rattle.least.specs.Least.{soonest}
 use mathlib.Core.Path.{sym, _∙_, ap}
 use borrow.Author.Needs.{needs}
@@ -7,10 +7,13 @@ use Rattle.overlaps.proofs.strays.with_child.Statement.{statement}
 use Rattle.overlaps.proofs.strays.with_child.Tie as tie
 
 returns : tie.Need-returns
-returns c = no-child (chassisOf (c .before .before .before .args .s .now)) (c .before .before .before .args .space) (c .before .before .before .args .p .0) _ (sym (c .before .kind-at .ensures) ∙ c .if1 .taken)
+returns c = without-stray _ _ _ (c .before .before .before .pre) (sym (c .before .kind-at .ensures) ∙ c .if1 .taken)
 
 returns-2 : tie.Need-returns-2
-returns-2 c = c .least-meeting .ensures ∙ rw (c .before .parent-at .ensures) (ap (soonest (c .before .before .before .before .before .args .best)) (child-first (chassisOf (c .before .before .before .before .before .args .s .now)) (c .before .before .before .before .before .args .space) (c .before .before .before .before .before .args .p .0) (λ e. c .before .before .if1 .left (c .before .before .before .kind-at .ensures ∙ e))))
+returns-2 c =
+    c .least-meeting .ensures
+    ∙ rw (c .before .parent-at .ensures)
+    (with-stray (chassisOf (c .before .before .before .before .before .args .s .now)) (c .before .before .before .before .before .args .space) (c .before .before .before .before .before .args .p .0) (c .before .before .before .before .before .pre) (λ e. c .before .before .if1 .left (c .before .before .before .kind-at .ensures ∙ e)))
 
 pub with-child-spec : {M : Type 1} → statement M
 with-child-spec =

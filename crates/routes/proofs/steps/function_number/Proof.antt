@@ -13,7 +13,7 @@ returns-2 c = rw (c .before .before .before .before .t .given .1, ← c .before 
 
 returns-3 : tie.Need-returns-3
 unfolding functionNumber
-returns-3 c = rw (c .before .before .before .before .t .given .1, ← c .before .before .with-ari-at .ensures, c .before .if1 .left)
+returns-3 c = rw (c .before .before .before .before .t .given .1, ← c .before .before .with-ari-at .ensures, c .before .if1 .left) (c .function .ensures)
 
 pub function-number-spec : {M : Type 1} → statement M
 function-number-spec =
@@ -24,6 +24,6 @@ function-number-spec =
     returns
     (λ c κs. search needs)
     (λ c. search needs)
-    (λ c. search needs)
+    (λ c κs. search needs)
     returns-2
     returns-3)

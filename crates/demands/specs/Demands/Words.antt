@@ -1,0 +1,36 @@
+-- The words of the demands: what the definitions of the other crates are called there.
+pub use Prim.Native.Nat.{ℕ, _<_}
+pub use mathlib.Core.Bool.{Bool, true, false, _||_}
+pub use mathlib.Core.List.{List, [], _∷_, _++_}
+pub use mathlib.Core.Logic.{_↔_, _⊎_}
+pub use mathlib.Core.Path.{_≡_}
+pub use lib.Dec.{eqb}
+pub use lib.ListN.{length, replicate}
+pub use Rattle.ids.specs.declared.PortNo.{PortNo}
+pub use Rattle.ids.specs.declared.Rid.{Rid}
+pub use Rattle.ids.specs.declared.Target.{Target}
+pub use Rattle.ids.specs.declared.Target.the-variants.{Id}
+pub use Rattle.ids.specs.Ids.{noPort}
+pub use Rattle.chassis.specs.declared.Verdict.{Verdict}
+pub use Rattle.chassis.specs.declared.End.{End}
+pub use Rattle.chassis.specs.Chassis.{Chassis}
+pub use Rattle.chassis.specs.Findings.{Clashing, Says}
+pub use Rattle.chassis.specs.OneEnd.{InRange, OneEnd}
+pub use Rattle.chassis.specs.Walk.{Walk, comeTo}
+pub use Rattle.paths.specs.declared.Path.{Path}
+pub use Rattle.picture.specs.declared.Header.{Header}
+pub use Rattle.picture.specs.declared.Reading.the-variants.{Read}
+pub use Rattle.picture.specs.Reading.{reading, numberOf}
+pub use Rattle.claims.specs.Claims.{chassisOf}
+pub use Rattle.judge.specs.declared.CheckAnswer.the-variants.{Judged}
+pub use Rattle.judge.specs.declared.ClaimAnswer.the-variants.{Claimed}
+pub use Rattle.judge.specs.declared.ConvertAnswer.the-variants.{Converted}
+pub use Rattle.judge.specs.declared.WalkAnswer.{WalkAnswer}
+pub use Rattle.judge.specs.declared.Outcome.the-variants.{Ended}
+pub use Rattle.judge.specs.Checking.{checkAnswer, checkFinding, checkNumber}
+pub use Rattle.judge.specs.Claiming.{claimAnswer, claimNumber}
+pub use Rattle.judge.specs.Converting.{convertAnswer, convertNumber}
+pub use Rattle.judge.specs.Ends.{outcomeNumber}
+pub use Rattle.judge.specs.Walking.{packetOf, WalkGives}
+pub use Rattle.fiswalend.specs.Calls.{returned, written, WalkCall}
+pub use Rattle.fiswalend.specs.Found.{findingBytes}

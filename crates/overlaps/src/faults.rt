@@ -1,0 +1,40 @@
+// Numbers 11 to 14: the least target with a fault, told which fault and which space.
+use crate::pairs::with_pairs;
+use crate::strays::with_child;
+use chassis::Fault;
+use ids::PortNo;
+use ids::Space;
+use least::Found;
+ghost use mathlib.Core.Path.{_≡_};
+ghost use Prim.Native.Nat.{_+_, _<_};
+ghost use Rattle.chassis.specs.Check.{faulty, leastTarget};
+ghost use Rattle.trees.specs.Trees.{countOf};
+ghost use Rattle.claims.specs.Claims.{chassisOf};
+ghost use Rattle.overlaps.specs.Overlaps.{faultyTo};
+
+// The best so far, after port p was tried.
+fn with_port(s: &[u8], n: u8, fault: Fault, space: Space, p: u8, best: Found) -> Found
+    requires { ⌜ n ≡ countOf (now s) ⌝ }
+    requires { ⌜ p < n ⌝ }
+    requires { ⌜ best ≡ leastTarget (faultyTo fault (chassisOf (now s)) p) space ⌝ }
+    ensures { λ r. ⌜ r ≡ leastTarget (faultyTo fault (chassisOf (now (s .entry))) (p + 1)) space ⌝ }
+{
+    match fault {
+        Fault::Shared => with_pairs(s, n, space, p, best),
+        Fault::Stray => with_child(s, space, PortNo(p), best),
+    }
+}
+
+// The least target of a space at which one of n ports is at fault.
+pub fn least_fault(s: &[u8], n: u8, fault: Fault, space: Space) -> Found
+    requires { ⌜ n ≡ countOf (now s) ⌝ }
+    ensures { λ r. ⌜ r ≡ leastTarget (faulty fault (chassisOf (now (s .entry)))) space ⌝ }
+{
+    let mut best = Found::Nothing;
+    let mut p: u8 = 0;
+    while p < n {
+        best = with_port(s, n, fault, space, p, best);
+        p += 1;
+    }
+    best
+}

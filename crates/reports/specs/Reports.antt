@@ -1,0 +1,24 @@
+-- 01, "Numbers given back": what the program prints of a picture, and a walk of its answer.
+use Prim.Native.Nat.{ℕ}
+use mathlib.Core.Bool.{Bool}
+use mathlib.Core.List.{List}
+use Rattle.trees.specs.Trees.{countOf}
+use Rattle.paths.specs.declared.Path.{Path}
+use Rattle.judge.specs.declared.Outcome.{Outcome}
+use Rattle.judge.specs.declared.Outcome.the-variants.{Refused, Ended}
+use Rattle.judge.specs.declared.WalkAnswer.{WalkAnswer}
+use Rattle.judge.specs.Checking.{checkAnswer, checkFinding}
+use Rattle.judge.specs.Refusals.{refusalFinding}
+use Rattle.texts.specs.Lines.{refusedLine, reportLines, walkLines}
+
+-- the count of ports and what the check says, with this byte between two lines
+abbrev pub reportOf : List ℕ → ℕ → List ℕ
+reportOf s end = reportLines (countOf s) (checkFinding (checkAnswer s)) end
+
+-- a refusal, or the end and the ports crossed
+abbrev pub outcomeLines : Bool → Outcome → Path → List ℕ
+outcomeLines config (Refused r) path = refusedLine (refusalFinding r)
+outcomeLines config (Ended e) path = walkLines config e path
+
+abbrev pub walkOf : Bool → WalkAnswer → List ℕ
+walkOf config a = outcomeLines config (a .outcome) (a .path)

@@ -1,0 +1,29 @@
+// What the programs print of the library's answers.
+use judge::Outcome;
+use judge::WalkAnswer;
+use judge::check;
+use judge::check_finding;
+use judge::refusal_finding;
+use texts::Text;
+ghost use mathlib.Core.Path.{_≡_};
+ghost use Rattle.texts.specs.Texts.{textOf};
+ghost use Rattle.reports.specs.Reports.{reportOf, walkOf};
+
+// What the report says of a picture: two lines with `end` between them, or one.
+pub fn report(picture: &[u8], end: u8) -> Text
+    ensures { λ r. ⌜ r ≡ textOf (reportOf (now (picture .entry)) end) ⌝ }
+{
+    texts::report_text(lent::u16_at(picture, 2), check_finding(check(picture)), end)
+}
+
+// Where a packet goes, or why that is not answered; `config` tells a configuration request.
+pub fn walked(config: bool, answer: WalkAnswer) -> Text
+    ensures { λ r. ⌜ r ≡ textOf (walkOf config answer) ⌝ }
+{
+    let outcome = answer.outcome;
+    let path = answer.path;
+    match outcome {
+        Outcome::Refused(r) => texts::refused_text(refusal_finding(r)),
+        Outcome::Ended(end) => texts::walk_text(config, end, path),
+    }
+}
