@@ -195,10 +195,10 @@ module _ (c : Chassis) where
   overlap-told : (v : Verdict) → Says c v → Either (findingOf v .number) → Overlap c
   overlap-told (Shared t p q) says e =
       record { target = t; in-range = says .0 .in-range; clashing = shared-true c t .0 (says .0 .passes) }
-  overlap-told Clear says e = ⊎-elim (λ x. omega arith) (λ x. omega arith) e
-  overlap-told (Stray (Id rid) p) says e = ⊎-elim (λ x. omega arith) (λ x. omega arith) e
-  overlap-told (Stray (Addr a) p) says e = ⊎-elim (λ x. omega arith) (λ x. omega arith) e
-  overlap-told (Lost p) says e = ⊎-elim (λ x. omega arith) (λ x. omega arith) e
+  overlap-told Clear says e = ⊎-elim (λ x. absurd (omega arith)) (λ x. absurd (omega arith)) e
+  overlap-told (Stray (Id rid) p) says e = ⊎-elim (λ x. absurd (omega arith)) (λ x. absurd (omega arith)) e
+  overlap-told (Stray (Addr a) p) says e = ⊎-elim (λ x. absurd (omega arith)) (λ x. absurd (omega arith)) e
+  overlap-told (Lost p) says e = ⊎-elim (λ x. absurd (omega arith)) (λ x. absurd (omega arith)) e
 
   overlap-given : Overlap c → (v : Verdict) → Says c v → Either (findingOf v .number)
   overlap-given o (Shared (Id rid) p q) says = inl refl
