@@ -1,8 +1,8 @@
 /* fiswalend.h: the judge of FPB registers, for C and C++.
  *
- * A picture is a chassis of 1 to 64 PCIe ports as bytes: a header, a record for each port, their vectors. fpb_check says whether
- * it is sound, fpb_walk says where one packet goes in it. What they return and write is proved, for every picture, every buffer
- * and every number.
+ * A picture is a chassis of 1 to 64 PCIe ports as bytes: a header, a record for each port, their vectors; docs/PICTURE.md of the
+ * source has its format and the table of numbers. fpb_check says whether it is sound, fpb_walk says where one packet goes in it.
+ * What they return and write is proved, for every picture, every buffer and every number.
  *
  * What the caller must see to, since no proof reaches this side of the call:
  *   - a pointer is valid for the length that comes with it: to read for a picture, to read and write for an answer.

@@ -78,7 +78,7 @@ def changed(data, at, new):
     return data[:at] + bytes(new) + data[at + len(new):]
 
 
-# the paper's own picture: one root port with bus 1 and an empty Memory window
+# the paper's own picture: one root port with bus 1, Memory E0000000h to E00FFFFFh and an empty Prefetchable window
 ONE_PORT = bytes.fromhex('01000100480000001000000048000000 00FF0800020001 0100E000E0F0FF0000'.replace(' ', '')) + bytes(36) + bytes.fromhex('48000000')
 
 SWITCH = [

@@ -21,6 +21,9 @@ CALLS = {"picture": ["read"], "judge": ["claim", "convert", "walk", "check"]}
 EXPORTING = ["fiswalend"]
 LATER = {"texts": ["report_text", "refused_text", "walk_text"], "reports": None}
 
+# What is promised beside the judge's own answers, by the crates that say it; the rest is the judge.
+BESIDE = {"the controller's bytes": ["answers", "fiswalend"], "the printed lines": ["texts", "reports"]}
+
 DEMANDS = CRATES / "demands/specs/Demands.antt"
 PAGE = ROOT / "docs/ARCHITECTURE.md"
 BEGIN, END = "<!-- believed -->\n", "<!-- /believed -->\n"
@@ -75,10 +78,18 @@ def about(module):
     return words if len(words) <= 100 else re.match(r".{,100}(?=[,;:] )|.{,97}(?= )", words).group(0) + " .."
 
 
+def parts(reached):
+    """The lines of the judge, of the controller's bytes and of the printed lines."""
+    of = lambda crates: lines(d for d in reached if not d.is_type and d.module.crate in crates)
+    beside = {title: of(crates) for title, crates in BESIDE.items()}
+    return {"the judge": totals(reached)[0] - sum(beside.values()), **beside}
+
+
 def table(reached):
     rows = ["| file | lines | about |", "|---|---|---|"]
     for group in by_file(definition for definition in reached if not definition.is_type):
         rows.append(f"| {group[0].module.label} | {lines(group)} | {about(group[0].module)} |")
+    rows += [f"| {title} | {count} | |" for title, count in parts(reached).items()]
     rows.append("| all | {} | {} definitions; beside them {} lines of types in src/ |".format(*totals(reached)))
     return "".join(row + "\n" for row in rows)
 
@@ -124,6 +135,7 @@ def main(command):
     reached = believed()
     commands[command](reached)
     if command not in ("--table", "--unused"):
+        print(*(f"{title}: {count}" for title, count in parts(reached).items()), sep=", ")
         print("believed: {} lines in {} definitions (and {} lines of types)".format(*totals(reached)))
     for words in sorted(problems):
         print(words, file=sys.stderr)

@@ -166,8 +166,8 @@ def in_antt(module, text):
 
 
 def in_rattle(module, text):
-    """The types that a text of Rattle cites."""
-    for word in re.findall(r"\b[A-Z]\w*", text):
+    """The types that a text of Rattle cites; what is in capitals throughout is a constant."""
+    for word in re.findall(r"\b[A-Z]\w*[a-z]\w*", text):
         crate = re.sub("^crate$", module.crate, module.modules.get(word, "").split("::")[0])
         found = [module.names[word]] if word in module.names else types_named(crate, word)
         if not found and crate and (CRATES / crate).is_dir():

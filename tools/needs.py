@@ -109,13 +109,6 @@ def word(name):
     return re.compile(rf'(?<![^\s(){{}};,@"]){re.escape(name)}(?![^\s(){{}};,@"])')
 
 
-def in_place(name, binders, answer):
-    """An answer as an argument. `search` takes a need's binders by itself, but not those of `returns`."""
-    if answer == "search needs" and not name.startswith("returns"):
-        return "(search needs)"
-    return f"(λ {binders}. {answer})"
-
-
 def shortened(text):
     """Plain answers moved to where they are handed over; one whose name stands elsewhere too is left alone."""
     before, handing_over, arguments = text.rpartition("tie.spec")
@@ -127,7 +120,7 @@ def shortened(text):
         name = found.group(1)
         rest = answers.replace(found.group(0), "", 1)
         if word(name).search(arguments) and not word(name).search(rest):
-            answers, arguments = rest, word(name).sub(in_place(*found.groups()), arguments)
+            answers, arguments = rest, word(name).sub("(λ {}. {})".format(*found.groups()[1:]), arguments)
     return tidied(answers.removesuffix("\n\n") + spec + closing + handing_over + arguments)
 
 

@@ -1,25 +1,6 @@
 -- 01, "Settled examples": C1 to C12 as one list of what the definitions say of them.
-use Prim.Native.Nat.{ℕ, _+_, _*_, _^_}
-use mathlib.Core.Bool.{Bool, true, false, not, _&&_}
-use mathlib.Core.List.{List, [], _∷_}
-use lib.Dec.{eqb}
-use Rattle.ids.specs.declared.Target.the-variants.{Id}
-use Rattle.least.specs.declared.Found.{Found}
-use Rattle.least.specs.declared.Found.the-variants.{At, Nothing}
-use Rattle.vectors.specs.Vectors.{entryOf, hits}
-use Rattle.chassis.specs.declared.Conversion.{Conversion}
-use Rattle.chassis.specs.declared.Conversion.the-variants.{NotClaimed, Type0, Type1, Unsupported}
-use Rattle.chassis.specs.Walk.{functionNumber}
-use Rattle.registers.specs.declared.Bridge.{Bridge}
-use Rattle.registers.specs.declared.Fpb.{Fpb}
-use Rattle.registers.specs.declared.Mechanism.the-variants.{Rid, Low, High}
-use Rattle.registers.specs.Vectors.{settingsOf}
-use Rattle.claims.specs.Decoders.{memoryClaims, lowClaims}
-use Rattle.claims.specs.Claims.{chassisOf}
-use Rattle.judge.specs.declared.ConvertAnswer.{ConvertAnswer}
-use Rattle.judge.specs.declared.ConvertAnswer.the-variants.{Refused, Converted}
-use Rattle.judge.specs.Converting.{convertAnswer}
-use Rattle.cases.specs.Chain.{chainWith}
+mod Words
+use Words.*
 
 -- the entry that applies, and that none does
 abbrev pub isEntry : ℕ → Found → Bool

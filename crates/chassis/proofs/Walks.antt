@@ -5,6 +5,7 @@ use mathlib.Core.Path.{_≡_, refl, subst}
 use native.Mathlib.Nat.{le-refl}
 use native.Mathlib.Omega.{arith}
 use lib.ListN.{length}
+use Rattle.least.proofs.Laws.{impossible}
 use Rattle.ids.specs.declared.PortNo.{PortNo}
 use Rattle.chassis.specs.declared.End.{End}
 use Rattle.chassis.specs.declared.Packet.{Packet}
@@ -31,8 +32,7 @@ walk-one {c} {packet} (goes {v = v} s k) (goes {v = v′} {path = path′} {e = 
 pub walk-rest : {c : Chassis} {packet : Packet} {w v : Whereabouts} {p : PortNo} {path : List PortNo} {e : End}
     → next c packet w ≡ Cross p v → Walk c packet w path e → (rest : List PortNo) × Walk c packet v rest e
 walk-rest s (ends s′) =
-    let z : _≡_ {A = ℕ} 0 1 = cc in
-    absurd (omega arith)
+    impossible (cc)
 walk-rest {c} {packet} {v = v} {e = e} s (goes {v = u} {path = rest} s′ k) =
     let same : u ≡ v = cc in
     (rest, subst (λ (x : Whereabouts). Walk c packet x rest e) same k)

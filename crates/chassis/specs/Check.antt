@@ -1,27 +1,6 @@
 -- 01, "Numbers given back": numbers 11 to 15, by the rows of the table. "Least target" is over all 65,536 IDs or all 2^64 addresses.
-use Prim.Native.Nat.{ℕ}
-use mathlib.Core.Bool.{Bool, true, false, not, cond, _&&_}
-use mathlib.Core.List.{List, [], _∷_}
-use lib.Dec.{eqb}
-use Rattle.ids.specs.declared.PortNo.{PortNo}
-use Rattle.ids.specs.declared.Space.{Space}
-use Rattle.ids.specs.declared.Space.the-variants.{Ids, Addresses}
-use Rattle.ids.specs.declared.Target.{Target}
-use Rattle.ids.specs.declared.Target.the-variants.{Id, Addr}
-use Rattle.ids.specs.Ids.{portNo, noPort}
-use Rattle.least.specs.declared.Found.{Found}
-use Rattle.least.specs.declared.Found.the-variants.{At, Nothing}
-use Rattle.least.specs.Least.{firstIn}
-use Rattle.chassis.specs.declared.Conversion.{Conversion}
-use Rattle.chassis.specs.declared.Conversion.the-variants.{NotClaimed, Type0, Type1, Unsupported}
-use Rattle.chassis.specs.declared.Fault.{Fault}
-use Rattle.chassis.specs.declared.Fault.the-variants.{Shared as OfShared, Stray as OfStray}
-use Rattle.chassis.specs.declared.Row.{Row}
-use Rattle.chassis.specs.declared.Row.the-variants.{At as RowAt, Lost as RowLost}
-use Rattle.chassis.specs.declared.Verdict.{Verdict}
-use Rattle.chassis.specs.declared.Verdict.the-variants.{Clear, Shared, Stray, Lost}
-use Rattle.chassis.specs.Chassis.{Chassis, isOwn, holds, targetIn, spaceSize}
-use Rattle.chassis.specs.Tree.{rootPort, standsAt, anyBelow}
+mod Words
+use Words.*
 
 -- 11, 12: "held by two ports at one place, or an ID claimed by the port whose own it is"; "a port with itself tried too"
 unfoldable pub clash : Chassis → Target → ℕ → ℕ → Bool

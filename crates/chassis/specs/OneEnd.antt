@@ -1,24 +1,7 @@
 -- What demand 3 says of one target: from the host and from every device port it comes to the same end, in at most 32 crossings, and no
 -- place on the way has two holders; except that a device port that itself claims the target refuses its own device.
-use Prim.Native.Nat.{ℕ, _≤_, _<_, _^_}
-use mathlib.Core.Bool.{true, false}
-use mathlib.Core.List.{List, [], _∷_, _++_}
-use mathlib.Core.Path.{_≡_}
-use lib.ListN.{length}
-use Rattle.ids.specs.declared.PortNo.{PortNo}
-use Rattle.ids.specs.declared.Target.{Target}
-use Rattle.ids.specs.declared.Target.the-variants.{Id, Addr}
-use Rattle.chassis.specs.declared.End.{End}
-use Rattle.chassis.specs.declared.End.the-variants.{Unsupported}
-use Rattle.chassis.specs.declared.Holders.the-variants.{Both}
-use Rattle.chassis.specs.declared.Packet.{Packet}
-use Rattle.chassis.specs.declared.Packet.the-variants.{Plain}
-use Rattle.chassis.specs.declared.Step.the-variants.{Cross}
-use Rattle.chassis.specs.declared.Whereabouts.{Whereabouts}
-use Rattle.chassis.specs.declared.Whereabouts.the-variants.{Root, Into, From, Type0, Type1}
-use Rattle.chassis.specs.Chassis.{Chassis, holds, lowestAt}
-use Rattle.chassis.specs.Tree.{root, isDevicePort}
-use Rattle.chassis.specs.Walk.{next, Walk}
+mod Words
+use Words.*
 
 -- the targets that there are: all 65,536 IDs and all 2^64 addresses
 abbrev pub InRange : Target → Type 0

@@ -1,27 +1,6 @@
 -- 01, "The walk": where a packet goes. `next` is the rules, one step at a time; `Walk` is what they give when repeated.
-use Prim.Native.Nat.{ℕ, _%_, _^_}
-use mathlib.Core.Bool.{Bool, true, false, cond}
-use mathlib.Core.List.{List, [], _∷_}
-use mathlib.Core.Path.{_≡_}
-use lib.Dec.{eqb}
-use Rattle.ids.specs.declared.PortNo.{PortNo}
-use Rattle.ids.specs.declared.Target.{Target}
-use Rattle.ids.specs.declared.Target.the-variants.{Id, Addr}
-use Rattle.chassis.specs.declared.Conversion.{Conversion}
-use Rattle.chassis.specs.declared.Conversion.the-variants.{NotClaimed, Type0 as AsType0, Type1 as AsType1, Unsupported as Refuses}
-use Rattle.chassis.specs.declared.End.{End}
-use Rattle.chassis.specs.declared.End.the-variants.{Device, Function, Host, Unsupported, Doubled}
-use Rattle.chassis.specs.declared.Holders.{Holders}
-use Rattle.chassis.specs.declared.Holders.the-variants.{Nobody, Only, Both}
-use Rattle.chassis.specs.declared.Packet.{Packet}
-use Rattle.chassis.specs.declared.Packet.the-variants.{Plain, Config}
-use Rattle.chassis.specs.declared.Step.{Step}
-use Rattle.chassis.specs.declared.Step.the-variants.{Stop, Cross}
-use Rattle.chassis.specs.declared.Whereabouts.{Whereabouts}
-use Rattle.chassis.specs.declared.Whereabouts.the-variants.{Root, Into, From, Type0, Type1}
-use Rattle.ids.specs.Ids.{portNo}
-use Rattle.chassis.specs.Chassis.{Chassis, isOwn, holds, lowestAt}
-use Rattle.chassis.specs.Tree.{root, isDevicePort}
+mod Words
+use Words.*
 
 abbrev pub targetOf : Packet → Target
 targetOf (Plain t) = t

@@ -1,21 +1,6 @@
 -- 01, "The walk": how a port converts a configuration request that it is about to be crossed by.
-use Prim.Native.Nat.{ℕ, _+_, _/_, _^_}
-use mathlib.Core.Bool.{Bool, not, cond, _&&_, _||_}
-use mathlib.Core.List.{List}
-use lib.Dec.{eqb}
-use Rattle.ids.specs.declared.Target.{Target}
-use Rattle.ids.specs.declared.Target.the-variants.{Id, Addr}
-use Rattle.ids.specs.Ids.{busOf, deviceOf, unitOf}
-use Rattle.chassis.specs.declared.Conversion.{Conversion}
-use Rattle.chassis.specs.declared.Conversion.the-variants.{NotClaimed, Type0, Type1, Unsupported}
-use Rattle.chassis.specs.Tree.{upstream}
-use Rattle.registers.specs.declared.Fpb.{Fpb}
-use Rattle.registers.specs.declared.Port.{Port}
-use Rattle.registers.specs.declared.Mechanism.{Mechanism}
-use Rattle.registers.specs.declared.Mechanism.the-variants.{Rid}
-use Rattle.registers.specs.Vectors.{field, enabledIn}
-use Rattle.registers.specs.Rules.{withAri}
-use Rattle.claims.specs.Decoders.{between, busClaims, claimsId}
+mod Words
+use Words.*
 
 -- "Control 2 bits 15:3 hold the Secondary Start, in units; Capabilities bits 7:3 hold Num Sec Dev, and n there means n + 1 device
 -- numbers."

@@ -1,6 +1,7 @@
 -- The three demands, proved of the definitions that the public calls promise. Assumes nothing.
 use Prim.Native.Nat.{ℕ, _-_, _≤_, _<_}
 use borrow.Author.Tests.{lt-ltb}
+use Rattle.least.proofs.Laws.{impossible}
 use Rattle.chassis.proofs.Bools.{never-both-values}
 use mathlib.Core.Bool.{Bool, true, false}
 use mathlib.Core.List.{List, _++_}
@@ -123,8 +124,7 @@ module _ (s : List ℕ) (kind start target : ℕ) where
   unfolding refusedWalk endedWalk Named
   asked-named a e h is true wrong gives ended =
       let told = ap (λ (x : WalkAnswer). x .outcome) gives in
-      let z : _≡_ {A = ℕ} 0 1 = cc in
-      absurd (omega arith)
+      impossible (cc)
   asked-named a e h is false right given ended =
       let w = given .0 in
       let arrives = given .1 in
@@ -142,8 +142,7 @@ module _ (s : List ℕ) (kind start target : ℕ) where
   unfolding refusedWalk
   read-named a e (NotRead r) is gives ended =
       let told = ap (λ (x : WalkAnswer). x .outcome) gives in
-      let z : _≡_ {A = ℕ} 0 1 = cc in
-      absurd (omega arith)
+      impossible (cc)
   read-named a e (Read h) is gives ended = asked-named a e h is (askedWrongly (treeOf s) kind start target) refl gives ended
 
 pub demand-2 : (s : List ℕ) → Demand2 s

@@ -3,9 +3,9 @@ use Prim.Native.Nat.{ℕ}
 use mathlib.Core.Bool.{Bool, true, false, cond, _||_}
 use mathlib.Core.List.{List, [], _∷_, _++_}
 use mathlib.Core.Path.{_≡_, refl, sym, ap, subst, _∙_}
-use native.Mathlib.Omega.{arith}
 use lib.ListN.{length}
 use lib.Dec.{eqb, ltb}
+use Rattle.least.proofs.Laws.{impossible}
 use Rattle.ids.specs.declared.Rid.{Rid}
 use Rattle.ids.specs.declared.Target.{Target}
 use Rattle.ids.specs.declared.Target.the-variants.{Id, Addr}
@@ -36,7 +36,7 @@ use Rattle.demands.specs.Demands.{oneOf, ofReading, ofCheck, ofAsking}
 
 -- a number of one list is one of a longer list
 in-more : (xs ys : List ℕ) (n : ℕ) → oneOf xs n ≡ true → oneOf (xs ++ ys) n ≡ true
-in-more [] ys n e = let z : _≡_ {A = ℕ} 0 1 = cc in absurd (omega arith)
+in-more [] ys n e = impossible (cc)
 in-more (x ∷ xs) ys n e = go (eqb n x) (in-more xs ys n) e
   where
     go : (b : Bool) → (oneOf xs n ≡ true → oneOf (xs ++ ys) n ≡ true) → (b || oneOf xs n) ≡ true → (b || oneOf (xs ++ ys) n) ≡ true
@@ -85,8 +85,7 @@ pub never-zero : (s : List ℕ) (r : Refusal) → reading s ≡ Refused r → r 
 never-zero s r e none =
     let told : oneOf refusals (r .number) ≡ true = subst Numbered e (reading-numbered s) in
     let zero : oneOf refusals 0 ≡ true = subst (λ (n : ℕ). oneOf refusals n ≡ true) none told in
-    let z : _≡_ {A = ℕ} 0 1 = cc in
-    omega arith
+    impossible (cc)
 
 verdict-numbered : (v : Verdict) → oneOf ofCheck (findingOf v .number) ≡ true
 verdict-numbered Clear = refl

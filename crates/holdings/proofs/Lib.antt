@@ -1,4 +1,2 @@
 pub mod Bools
 pub mod Words
-pub mod Firsts
-pub mod NextIs

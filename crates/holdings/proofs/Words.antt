@@ -1,6 +1,6 @@
 -- The search's words are the paper's: what a reach of a port reaches is what is its own or what it claims. Assumes nothing.
 use Prim.Native.Nat.{ℕ, suc, _+_, _-_, _*_, _/_, _^_, _≤_, _<_}
-use mathlib.Core.Bool.{Bool, true, false, _&&_, _||_}
+use mathlib.Core.Bool.{Bool, true, false, _&&_, _||_, and-assoc, and-false, and-true}
 use mathlib.Core.List.{List}
 use mathlib.Core.Path.{_≡_, refl, _∙_, ap}
 use native.Mathlib.Decide.{decLe, ℕ-discrete}
@@ -29,7 +29,7 @@ use Rattle.spans.specs.Grids.{hitIn}
 use Rattle.spans.specs.Reaches.{onRanges, onGrids, reaches}
 use Rattle.spans.proofs.OfRanges.{above}
 use Rattle.holdings.specs.Holdings.{rangeIf, gridIf, busRange, memoryRange, prefetchableRange, idReach, addressReach, reachOf, oneOf, endsIn}
-use Rattle.holdings.proofs.Bools.{and-assoc, and-false, and-true, and-swap, either-way, four-ways, same-leb}
+use Rattle.holdings.proofs.Bools.{and-swap, either-way, four-ways, same-leb}
 
 -- a range or a grid that is off reaches nothing
 range-in : (on : Bool) (lo hi t : ℕ) → inRange (rangeIf on lo hi) t ≡ (on && between lo hi t)

@@ -1,20 +1,6 @@
 -- What a port holds or claims in one space, as ranges and grids. What is off is an empty range.
-use Prim.Native.Nat.{ℕ, _+_, _-_, _*_, _^_, _<_}
-use mathlib.Core.Bool.{Bool, false, not, cond, _&&_}
-use lib.Dec.{eqb}
-use Rattle.ids.specs.declared.Space.{Space}
-use Rattle.ids.specs.declared.Space.the-variants.{Ids, Addresses}
-use Rattle.chassis.specs.Chassis.{spaceSize}
-use Rattle.registers.specs.declared.Bridge.{Bridge}
-use Rattle.registers.specs.declared.Fpb.{Fpb}
-use Rattle.registers.specs.declared.Port.{Port}
-use Rattle.registers.specs.declared.Mechanism.{Mechanism}
-use Rattle.registers.specs.declared.Mechanism.the-variants.{Rid, Low, High}
-use Rattle.registers.specs.Vectors.{enabledIn, settingsOf}
-use Rattle.claims.specs.Decoders.{baseOf, limitOf, upperOf, memorySpaceEnabled}
-use Rattle.spans.specs.declared.Reach.{Reach}
-use Rattle.spans.specs.declared.grids.Grid.{Grid}
-use Rattle.spans.specs.declared.ranges.Range.{Range}
+mod Words
+use Words.*
 
 unfoldable pub rangeIf : Bool → ℕ → ℕ → Range
 rangeIf on lo hi = cond on (record { lo = lo; hi = hi }) (record { lo = 1; hi = 0 })

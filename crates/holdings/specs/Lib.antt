@@ -1,2 +1,1 @@
 pub mod Holdings
-pub mod Next

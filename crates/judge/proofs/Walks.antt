@@ -6,6 +6,7 @@ use mathlib.Core.Path.{_≡_, refl, sym, ap, subst, subst₂, _∙_}
 use native.Mathlib.Omega.{arith}
 use borrow.Author.Tests.{eqb-true, ne-eqb, leb-false, ltb-true, not-false}
 use lib.Dec.{eqb, ltb}
+use Rattle.least.proofs.Laws.{impossible}
 use Rattle.chassis.specs.declared.Packet.{Packet}
 use Rattle.chassis.specs.declared.Whereabouts.{Whereabouts}
 use Rattle.chassis.specs.declared.Whereabouts.the-variants.{Root}
@@ -66,7 +67,7 @@ starts tree start e = go (eqb start root) (isDevicePort tree start) refl refl e
     go : (a b : Bool) → eqb start root ≡ a → isDevicePort tree start ≡ b → (a || b) ≡ true → Starts tree start
     go true b ea eb e = at-root (eqb-true start root ea)
     go false true ea eb e = at-port (device-port-below tree start eb)
-    go false false ea eb e = let z : _≡_ {A = ℕ} 0 1 = cc in absurd (omega arith)
+    go false false ea eb e = impossible (cc)
 
 module _ (c : Chassis) (sane : Sane (c .tree)) (start : ℕ) where
   pub start-small : Starts (c .tree) start → start < 256

@@ -1,26 +1,6 @@
 -- The walk call: numbers 1 to 10, then 16, then 01, "The walk".
-use Prim.Native.Nat.{ℕ, _^_}
-use mathlib.Core.Bool.{Bool, true, false, not, cond, _&&_, _||_}
-use mathlib.Core.List.{List, []}
-use mathlib.Core.Path.{_≡_}
-use lib.Dec.{eqb, leb, ltb}
-use Rattle.ids.specs.declared.Target.the-variants.{Id, Addr}
-use Rattle.chassis.specs.declared.Packet.{Packet}
-use Rattle.chassis.specs.declared.Packet.the-variants.{Plain, Config}
-use Rattle.chassis.specs.Tree.{Tree, root, isDevicePort}
-use Rattle.chassis.specs.Walk.{comeTo}
-use Rattle.paths.specs.Paths.{pathOf}
-use Rattle.picture.specs.declared.Reading.{Reading}
-use Rattle.picture.specs.declared.Reading.the-variants.{Read, Refused as NotRead}
-use Rattle.picture.specs.declared.Refusal.{Refusal}
-use Rattle.picture.specs.Reading.{reading}
-use Rattle.claims.specs.Claims.{chassisOf}
-use Rattle.routes.specs.declared.Walked.{Walked}
-use Rattle.routes.specs.Routes.{Arrives}
-use Rattle.judge.specs.declared.Outcome.{Outcome}
-use Rattle.judge.specs.declared.Outcome.the-variants.{Refused, Ended}
-use Rattle.judge.specs.declared.WalkAnswer.{WalkAnswer}
-use Rattle.judge.specs.Refusals.{number16}
+mod Words
+use Words.*
 
 -- "packet kind 0 ID, 1 address, 2 configuration request"
 unfoldable pub packetOf : ℕ → ℕ → Packet

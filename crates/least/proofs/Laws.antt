@@ -29,8 +29,12 @@ abbrev pub Least : (ℕ → Bool) → ℕ → ℕ → Found → Type 0
 Least p lo hi (At n) = LeastAt p lo hi n
 Least p lo hi Nothing = NoneIn p lo hi
 
+-- what `cc` finds where two constructors would be equal, and nothing that follows from it is so
+pub impossible {ℓ} : {A : Type ℓ} → _≡_ {A = ℕ} 0 1 → A
+impossible z = absurd (omega arith)
+
 not-both : {b : Bool} → b ≡ true → b ≡ false → ⊥
-not-both t f = let z : _≡_ {A = ℕ} 0 1 = cc in absurd (omega arith)
+not-both t f = impossible (cc)
 
 -- Where there is nothing to look at, where two stretches meet, and one number more.
 pub none-empty : {p : ℕ → Bool} {lo hi : ℕ} → hi ≤ lo → NoneIn p lo hi
@@ -235,4 +239,4 @@ best-stays {p} {lo} {b} hi none = go (firstIn p lo hi) (of-range p lo hi)
 pub best-by : {p : ℕ → Bool} {lo n : ℕ} (best : Found) (hi : ℕ) → isBy best n ≡ true → NoneIn p lo n → best ≡ soonest best (firstIn p lo hi)
 unfolding isBy
 best-by (At b) hi e none = sym (best-stays hi (none-part (le-refl _) (leb-true b _ e) none))
-best-by Nothing hi e none = absurd (let z : _≡_ {A = ℕ} 0 1 = cc in omega arith)
+best-by Nothing hi e none = impossible (cc)

@@ -1,9 +1,11 @@
 -- What the search over two ports' reaches finds is the least target of their meeting. Assumes nothing.
-use Prim.Native.Nat.{ℕ, _^_, _<_}
+use Prim.Native.Nat.{ℕ, _^_, _<_, _≤_}
 use mathlib.Core.Bool.{Bool}
 use mathlib.Core.List.{List}
 use mathlib.Core.Path.{_≡_, sym, _∙_}
+use native.Mathlib.Omega.{arith}
 use Rattle.ids.specs.declared.Space.{Space}
+use Rattle.ids.specs.declared.Space.the-variants.{Ids, Addresses}
 use Rattle.least.specs.Least.{firstIn}
 use Rattle.least.proofs.Laws.{first-below, first-agree}
 use Rattle.chassis.specs.Chassis.{spaceSize}
@@ -17,9 +19,12 @@ use Rattle.spans.specs.Reaches.{reaches}
 use Rattle.search.specs.Search.{reachesIs, meets}
 use Rattle.holdings.specs.Holdings.{reachOf, oneOf, endsIn}
 use Rattle.holdings.proofs.Words.{reach-words, none-past}
-use Rattle.holdings.proofs.Firsts.{space-size}
 use Rattle.overlaps.specs.declared.meetings.Holding.{Holding}
 use Rattle.overlaps.specs.Overlaps.{has, meeting}
+
+space-size : (space : Space) → spaceSize space ≤ 2 ^ 64
+space-size Ids = omega arith
+space-size Addresses = omega arith
 
 -- the reach of what is looked at of a port
 abbrev reachFor : List ℕ → Space → Holding → Reach
@@ -41,5 +46,5 @@ module _ (s : List ℕ) (space : Space) where
         → firstIn (meets d (one a) (other a) e (one b) (other b) want) 0 (2 ^ 64) ≡ leastTarget (meeting (chassisOf s) a b want) space
     unfolding meets reachesIs meeting testIn
     meets-first {d} {e} x y ends =
-        sym (first-below 0 (space-size space .1) (record { none = λ t l h. rw (none-past space d _ _ ends t l) }))
+        sym (first-below 0 (space-size space) (record { none = λ t l h. rw (none-past space d _ _ ends t l) }))
         ∙ first-agree (λ t l h. rw (x, y, has-words a t h, has-words b t h))

@@ -9,7 +9,7 @@ use native.Mathlib.Omega.{arith}
 use borrow.Author.Tests.{eq-eqb, ne-eqb, lt-ltb, ltb-false}
 use lib.ListN.{length}
 use lib.Dec.{eqb, ltb}
-use Rattle.least.proofs.Laws.{NoneIn, at-is, none-is, is-at}
+use Rattle.least.proofs.Laws.{impossible, NoneIn, at-is, none-is, is-at}
 use Rattle.least.specs.declared.Found.{Found}
 use Rattle.least.specs.declared.Found.the-variants.{At, Nothing}
 use Rattle.least.specs.Least.{firstIn, orElse}
@@ -68,8 +68,8 @@ unfolding countWrong
 count-small h right = go (eqb (h .count) 0) (ltb 64 (h .count)) refl right
   where
     go : (a b : Bool) → ltb 64 (h .count) ≡ b → (a || b) ≡ false → h .count ≤ 64
-    go true b e r = let z : _≡_ {A = ℕ} 0 1 = cc in absurd (omega arith)
-    go false true e r = let z : _≡_ {A = ℕ} 0 1 = cc in absurd (omega arith)
+    go true b e r = impossible (cc)
+    go false true e r = impossible (cc)
     go false false e r = ltb-false 64 (h .count) e
 
 -- numbers looked for one after the other are a chain of refusals

@@ -11,7 +11,7 @@ use borrow.Author.Tests.{eqb-true, not-false}
 use lib.ListN.{length, take, drop, length-take, length-drop}
 use lib.Dec.{eqb}
 use lib.Seq.{length-take-le}
-use Rattle.least.proofs.Laws.{NoneIn, is-none}
+use Rattle.least.proofs.Laws.{impossible, NoneIn, is-none}
 use Rattle.least.specs.declared.Found.{Found}
 use Rattle.least.specs.declared.Found.the-variants.{At, Nothing}
 use Rattle.least.specs.Least.{firstIn, orElse}
@@ -45,16 +45,16 @@ pub record Reads (s : List ℕ) (h : Header) : Type 0 where
 
 -- one refusal passed on the way to a header
 past-if : (wrong : Bool) (number port : ℕ) (rest : Reading) {h : Header} → refusedIf wrong number port rest ≡ Read h → (wrong ≡ false) × (rest ≡ Read h)
-past-if true number port rest e = let z : _≡_ {A = ℕ} 0 1 = cc in absurd (omega arith)
+past-if true number port rest e = impossible (cc)
 past-if false number port rest e = (refl, e)
 
 past-at : (found : Found) (number : ℕ) (rest : Reading) {h : Header} → refusedAt found number rest ≡ Read h → (Nothing ≡ found) × (rest ≡ Read h)
-past-at (At p) number rest e = let z : _≡_ {A = ℕ} 0 1 = cc in absurd (omega arith)
+past-at (At p) number rest e = impossible (cc)
 past-at Nothing number rest e = (refl, e)
 
 past-end : (found : Found) (wrong : Bool) → Nothing ≡ orElse found (cond wrong (At 255) Nothing) → (Nothing ≡ found) × (wrong ≡ false)
-past-end (At p) wrong e = let z : _≡_ {A = ℕ} 0 1 = cc in absurd (omega arith)
-past-end Nothing true e = let z : _≡_ {A = ℕ} 0 1 = cc in absurd (omega arith)
+past-end (At p) wrong e = impossible (cc)
+past-end Nothing true e = impossible (cc)
 past-end Nothing false e = (refl, refl)
 
 -- a picture whose reading is a header passed every test

@@ -1,22 +1,6 @@
 -- 01, "Numbers given back": numbers 1 to 10. "Lowest number wins, then the lowest port."
-use Prim.Native.Nat.{ℕ}
-use mathlib.Core.Bool.{Bool, cond}
-use mathlib.Core.List.{List}
-use lib.ListN.{length}
-use Rattle.least.specs.declared.Found.{Found}
-use Rattle.least.specs.declared.Found.the-variants.{At, Nothing}
-use Rattle.least.specs.Least.{firstIn, orElse}
-use Rattle.ids.specs.Ids.{portNo}
-use Rattle.chassis.specs.Tree.{treeBroken, chainTooLong}
-use Rattle.registers.specs.Record.{portAt}
-use Rattle.registers.specs.Rules.{settingsWrong, startWrong}
-use Rattle.trees.specs.Trees.{countOf, treeOf}
-use Rattle.picture.specs.declared.Reading.{Reading}
-use Rattle.picture.specs.declared.Reading.the-variants.{Read, Refused}
-use Rattle.picture.specs.declared.Rule.{Rule}
-use Rattle.picture.specs.declared.Rule.the-variants.{Tree, Chain, Settings, Start}
-use Rattle.picture.specs.Header.{headerOf, lengthWrong, editionWrong, countWrong, totalWrong, offsetWrong}
-use Rattle.picture.specs.Layout.{placeWrong, endWrong}
+mod Words
+use Words.*
 
 -- what a port must not do
 unfoldable pub breaks : Rule → List ℕ → ℕ → Bool

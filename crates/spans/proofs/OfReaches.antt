@@ -2,27 +2,18 @@
 -- Assumes nothing.
 use Prim.Native.Nat.{ℕ, _^_, _≤_, _<_}
 use mathlib.Core.Path.{_≡_, refl, sym, ap, subst}
-use mathlib.Core.Bool.{Bool, true, false, _||_}
+use mathlib.Core.Bool.{Bool, true, false, _||_, or-true, or-assoc}
 use mathlib.Core.List.{List}
 use native.Mathlib.Nat.{le-trans, le-antisymm}
-use native.Mathlib.Omega.{arith}
 use borrow.Author.Tests.{not-true, not-false}
 use Rattle.least.specs.declared.Found.{Found}
 use Rattle.least.specs.declared.Found.the-variants.{At, Nothing}
 use Rattle.least.specs.Least.{firstIn, soonest}
-use Rattle.least.proofs.Laws.{NoneIn, Least, Within, of-range, is-at, at-is, none-is, none-join, none-within, either-first}
+use Rattle.least.proofs.Laws.{impossible, NoneIn, Least, Within, of-range, is-at, at-is, none-is, none-join, none-within, either-first}
 use Rattle.spans.specs.declared.Reach.{Reach}
 use Rattle.spans.specs.Ranges.{inRange, outOf, onward}
 use Rattle.spans.specs.Grids.{hitIn, missedIn}
 use Rattle.spans.specs.Reaches.{onRanges, onGrids, reaches, misses, skipped}
-
-or-right : (a : Bool) → (a || true) ≡ true
-or-right true = refl
-or-right false = refl
-
-or-assoc : (a b c : Bool) → (a || (b || c)) ≡ (a || b || c)
-or-assoc true b c = refl
-or-assoc false b c = refl
 
 -- where a finding stands that no r was passed for, from `i` on
 abbrev Passed : (ℕ → Bool) → ℕ → Found → Type 0
@@ -46,7 +37,7 @@ passed-on r p i (At j) w a = go (firstIn p j (2 ^ 64)) (passed-first r p j w)
 
 -- where the skip ends at `i` itself, it began there, and the test holds there
 stayed : (r p : ℕ → Bool) (i : ℕ) (f : Found) → Passed r i f → At i ≡ onward p f → (At i ≡ f) × (p i ≡ true)
-stayed r p i Nothing a e = (cc, absurd (let z : _≡_ {A = ℕ} 0 1 = cc in omega arith))
+stayed r p i Nothing a e = (cc, impossible (cc))
 stayed r p i (At j) a e =
     let b = is-at p j (2 ^ 64) e in
     let same : i ≡ j = le-antisymm (a .0) (b .from) in
@@ -66,7 +57,7 @@ module _ (d : Reach) (v w : List ℕ) where
 
   either-other : (t : ℕ) → reaches d v w t ≡ (withOne t || hitIn w (d .other) t)
   unfolding reaches onGrids
-  either-other t = or-assoc (onRanges d t) (hitIn v (d .one) t) (hitIn w (d .other) t)
+  either-other t = sym (or-assoc (onRanges d t) (hitIn v (d .one) t) (hitIn w (d .other) t))
 
   -- the soonest of the four
   pub reach-first : (from : ℕ)
@@ -89,15 +80,15 @@ module _ (d : Reach) (v w : List ℕ) where
 
   within-second : Within (misses d v w) (outOf (d .second))
   unfolding misses reaches onRanges outOf
-  within-second t e = rw (not-false (inRange (d .second) t) e, or-right)
+  within-second t e = rw (not-false (inRange (d .second) t) e, or-true)
 
   within-one : Within (misses d v w) (missedIn v (d .one))
   unfolding misses reaches onGrids missedIn
-  within-one t e = rw (not-false (hitIn v (d .one) t) e, or-right)
+  within-one t e = rw (not-false (hitIn v (d .one) t) e, or-true)
 
   within-other : Within (misses d v w) (missedIn w (d .other))
   unfolding misses reaches onGrids missedIn
-  within-other t e = rw (not-false (hitIn w (d .other) t) e, or-right, or-right)
+  within-other t e = rw (not-false (hitIn w (d .other) t) e, or-true, or-true)
 
   none-reached : (t : ℕ) → outOf (d .first) t ≡ true → outOf (d .second) t ≡ true
       → missedIn v (d .one) t ≡ true → missedIn w (d .other) t ≡ true

@@ -55,7 +55,7 @@ fn next_miss(v: &[u8], s: Settings, from: u64) -> Found
 }
 
 // A finding, unless it lies above `hi`.
-pub fn clip(found: Found, hi: u64) -> Found
+fn clip(found: Found, hi: u64) -> Found
     ensures { λ r. ⌜ r ≡ clipped found hi ⌝ }
 {
     match found {

@@ -1,23 +1,8 @@
 -- 01, "Numbers given back": "The program reads a picture from standard input and prints two lines, `ports N` and `clear`; on any
 -- refusal it prints only one line, `refused K`, followed where named by ` id ` or ` addr ` and lower-case hexadecimal digits
 -- (4 or 16), and ` ports` with each decimal number after a space." The lines of a walk are of docs/DECISIONS.md.
-use Prim.Native.Nat.{ℕ}
-use mathlib.Core.Bool.{Bool, cond}
-use mathlib.Core.List.{List, [], _∷_, _++_}
-use lib.Dec.{eqb}
-use lib.ListN.{take}
-use Rattle.io.specs.Digits.{digits}
-use Rattle.ids.specs.declared.PortNo.{PortNo}
-use Rattle.ids.specs.declared.Target.the-variants.{Id, Addr}
-use Rattle.chassis.specs.declared.Finding.{Finding}
-use Rattle.chassis.specs.declared.Shown.{Shown}
-use Rattle.chassis.specs.declared.Shown.the-variants.{NoTarget, Least}
-use Rattle.chassis.specs.declared.Holders.{Holders}
-use Rattle.chassis.specs.declared.Holders.the-variants.{Nobody, Only, Both}
-use Rattle.chassis.specs.declared.End.{End}
-use Rattle.chassis.specs.declared.End.the-variants.{Device, Function, Host, Unsupported, Doubled}
-use Rattle.paths.specs.declared.Path.{Path}
-use Rattle.texts.specs.Texts.{ascii, decimal}
+mod Words
+use Words.*
 
 -- a "decimal number after a space"
 unfoldable pub spaced : ℕ → List ℕ

@@ -13,7 +13,7 @@ abbrev Inv-loop : tie.InvT-loop
 Inv-loop s q₀ k₀ q k = (k ≤ 16) × (q .0 ≡ above (treeOf s) k (q₀ .0))
 
 abbrev μ-loop : tie.MeasureT-loop
-μ-loop s q₀ k₀ q k = 16 - k
+μ-loop s q₀ k₀ q k = 255 - k
 
 loop-holds : tie.Need-loop-holds Inv-loop μ-loop
 unfolding above
