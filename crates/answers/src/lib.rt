@@ -6,6 +6,9 @@ ghost use Rattle.answers.specs.Answers.{answerBytes, noPlaces, pathPlace
 // How many bytes an answer has.
 pub const ANSWER_BYTES: usize = 40;
 
+// What stands at a place that is not used.
+const NO_PLACE: u8 = 255;
+
 // What stands before the places.
 pub struct Head {
     pub number: u8,
@@ -22,7 +25,7 @@ pub fn without_places(h: Head) -> [u8; ANSWER_BYTES]
 {
     let port = h.port;
     let second = h.second;
-    let mut out = [255u8; ANSWER_BYTES];
+    let mut out = [NO_PLACE; ANSWER_BYTES];
     out[0] = h.number;
     out[1] = h.end;
     out[2] = port.0;

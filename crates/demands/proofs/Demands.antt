@@ -9,7 +9,7 @@ use mathlib.Core.Logic.{_⊎_, inl, inr, ⊎-elim}
 use mathlib.Core.Path.{_≡_, refl, sym, ap, subst, _∙_}
 use native.Mathlib.Nat.{le-trans}
 use native.Mathlib.Omega.{arith}
-use lib.ListN.{length, length-append, length-replicate}
+use lib.ListN.{length, drop, length-append, length-replicate}
 use Rattle.ids.specs.declared.PortNo.{PortNo}
 use Rattle.ids.specs.declared.Rid.{Rid}
 use Rattle.ids.specs.declared.Target.{Target}
@@ -53,6 +53,8 @@ use Rattle.judge.specs.Refusals.{number16, refusalFinding}
 use Rattle.judge.specs.Walking.{packetOf, askedWrongly, refusedWalk, endedWalk, AskedGives, ReadGives, WalkGives}
 use Rattle.judge.proofs.Walks.{walk-only, sane-read, within-start}
 use Rattle.fiswalend.specs.Calls.{tooShort, returned, written, WalkLeaves, WalkCall}
+use Rattle.fiswalend.specs.Walked.{walkBytes}
+use Rattle.judge.specs.Ends.{outcomeNumber}
 use Rattle.fiswalend.proofs.Forty.{under-40}
 use Rattle.fiswalend.proofs.WalkCalls.{walk-call-only}
 use Rattle.demands.specs.Demands.{Demand1, Demand1Buffer, Demand2, Demand3, Names, Overlap, OverlapExactly}
@@ -61,20 +63,6 @@ use Rattle.demands.proofs.Numbers.{reading-in-table, check-numbered, cl
 pub demand-1 : (s : List ℕ) → Demand1 s
 demand-1 s =
     record { reads = reading-in-table s; check = check-numbered s; walk = walk-numbered s; claim = claim-numbered s; convert = convert-numbered s }
-
-pub demand-1-buffer : (s before : List ℕ) → Demand1Buffer s before
-unfolding returned written
-demand-1-buffer s before =
-    record {
-      check = λ short. (rw (under-40 before short), rw (under-40 before short));
-      walk = λ short kind start target number after call. untouched kind start target number after (under-40 before short) call;
-      only = λ kind start target m n x y. walk-call-only s kind start target before m n x y;
-    }
-  where
-    untouched : (kind start target number : ℕ) (after : List ℕ) → tooShort before ≡ true → WalkCall s kind start target before number after
-        → (number ≡ 17) × (after ≡ before)
-    untouched kind start target number after short call =
-        subst (λ (b : Bool). WalkLeaves b s kind start target before number after) short call
 
 -- a path of at most 32 ports has 32 places, and names them first
 names : (path : Path) (crossed : List PortNo) → length crossed ≤ 32 → path ≡ pathOf crossed → Names path crossed
@@ -145,6 +133,32 @@ module _ (s : List ℕ) (kind start target : ℕ) where
       impossible (cc)
   read-named a e (Read h) is gives ended = asked-named a e h is (askedWrongly (treeOf s) kind start target) refl gives ended
 
+pub demand-1-buffer : (s before : List ℕ) → Demand1Buffer s before
+unfolding returned written
+demand-1-buffer s before =
+    record {
+      check = λ short. (rw (under-40 before short), rw (under-40 before short));
+      walk = λ short kind start target number after call. untouched kind start target number after (under-40 before short) call;
+      answers = λ kind start target. called kind start target (tooShort before) refl;
+      only = λ kind start target m n x y. walk-call-only s kind start target before m n x y;
+    }
+  where
+    untouched : (kind start target number : ℕ) (after : List ℕ) → tooShort before ≡ true → WalkCall s kind start target before number after
+        → (number ≡ 17) × (after ≡ before)
+    untouched kind start target number after short call =
+        subst (λ (b : Bool). WalkLeaves b s kind start target before number after) short call
+
+    called : (kind start target : ℕ) (short : Bool) → tooShort before ≡ short
+        → (number : ℕ) × (after : List ℕ) × WalkCall s kind start target before number after
+    called kind start target true short = (17, before, subst (λ (b : Bool). WalkLeaves b s kind start target before 17 before) (sym short) (refl, refl))
+    called kind start target false long =
+        let a = answered s kind start target in (
+          outcomeNumber (a .0 .outcome),
+          walkBytes (a .0) ++ drop 40 before,
+          subst (λ (b : Bool). WalkLeaves b s kind start target before (outcomeNumber (a .0 .outcome)) (walkBytes (a .0) ++ drop 40 before)) (sym long)
+              (a .0, a .1, refl, refl),
+        )
+
 pub demand-2 : (s : List ℕ) → Demand2 s
 unfolding Named
 demand-2 s =
@@ -206,7 +220,7 @@ module _ (c : Chassis) where
   overlap-given o (Stray t p) says = unseen o (says .0)
   overlap-given o (Lost p) says = unseen o (says .0 Faulty·Shared)
 
-pub overlap-exactly : (s : List ℕ) (h : Header) → reading s ≡ Read h → OverlapExactly s
+pub overlap-exactly : (s : List ℕ) → OverlapExactly s
 unfolding checkFinding
 overlap-exactly s h is =
     record {

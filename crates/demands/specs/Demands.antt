@@ -1,5 +1,5 @@
 -- The three demands, of the very definitions that the public calls promise. Their proofs are in proofs/Demands.antt, under the same
--- names in small letters: demand-1, demand-2, demand-3, overlap-exactly (of a picture that reads).
+-- names in small letters: demand-1, demand-1-buffer, demand-2, demand-3, overlap-exactly.
 mod Words
 use Words.*
 
@@ -33,6 +33,7 @@ pub record Demand1Buffer (s before : List ℕ) : Type 0 where
   pub check : length before < 40 → (returned before (checkNumber (checkAnswer s)) ≡ 17) × (written before (findingBytes (checkFinding (checkAnswer s))) ≡ before)
   pub walk : length before < 40 → (kind start target number : ℕ) (after : List ℕ) → WalkCall s kind start target before number after
       → (number ≡ 17) × (after ≡ before)
+  pub answers : (kind start target : ℕ) → (number : ℕ) × (after : List ℕ) × WalkCall s kind start target before number after
   pub only : (kind start target m n : ℕ) (x y : List ℕ) → WalkCall s kind start target before m x → WalkCall s kind start target before n y
       → (m ≡ n) × (x ≡ y)
 
@@ -68,6 +69,9 @@ pub record Overlap (c : Chassis) : Type 0 where
 
 -- Its other half: "a picture that reads fails for overlap exactly if some ID or address has two sibling holders, or some port claims
 -- its own ID; the least such target is shown, with its ports"
-pub record OverlapExactly (s : List ℕ) : Type 0 where
+pub record FailsExactly (s : List ℕ) : Type 0 where
   pub exactly : ((checkNumber (checkAnswer s) ≡ 11) ⊎ (checkNumber (checkAnswer s) ≡ 12)) ↔ Overlap (chassisOf s)
   pub shown : (v : Verdict) → checkAnswer s ≡ Judged v → Says (chassisOf s) v
+
+abbrev pub OverlapExactly : List ℕ → Type 0
+OverlapExactly s = (h : Header) → reading s ≡ Read h → FailsExactly s

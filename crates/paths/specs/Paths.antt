@@ -1,5 +1,5 @@
 -- 01, "Numbers given back": "the answer carries its path, 32 places in crossing order; unused places and ports are 255"
-use Prim.Native.Nat.{ℕ, _+_, _-_}
+use Prim.Native.Nat.{_+_, _-_}
 use mathlib.Core.List.{List, _++_}
 use lib.ListN.{length, replicate, set}
 use Rattle.ids.specs.declared.PortNo.{PortNo}

@@ -1,5 +1,5 @@
 -- 01, "Numbers given back": numbers 8 and 9, of one port's registers.
-use Prim.Native.Nat.{ℕ, _+_, _%_, _^_}
+use Prim.Native.Nat.{_+_, _%_, _^_}
 use mathlib.Core.Bool.{Bool, not, _&&_, _||_}
 use lib.Dec.{eqb, leb, ltb}
 use Rattle.chassis.specs.Tree.{upstream}

@@ -3,7 +3,7 @@
 use libc::STDIN_FILENO;
 
 fn print_lines(picture: &[u8]) {
-    reports::report(picture, b'\n').with(b"\n").print();
+    reports::report_lines(picture).print();
 }
 
 // One byte more than a picture may have, so that a longer input shows.

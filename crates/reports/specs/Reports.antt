@@ -1,7 +1,7 @@
 -- 01, "Numbers given back": what the program prints of a picture, and a walk of its answer.
 use Prim.Native.Nat.{ℕ}
 use mathlib.Core.Bool.{Bool}
-use mathlib.Core.List.{List}
+use mathlib.Core.List.{List, [], _∷_, _++_}
 use Rattle.trees.specs.Trees.{countOf}
 use Rattle.paths.specs.declared.Path.{Path}
 use Rattle.judge.specs.declared.Outcome.{Outcome}
@@ -22,3 +22,7 @@ outcomeLines config (Ended e) path = walkLines config e path
 
 abbrev pub walkOf : Bool → WalkAnswer → List ℕ
 walkOf config a = outcomeLines config (a .outcome) (a .path)
+
+-- with the last line's end
+abbrev pub ended : List ℕ → List ℕ
+ended lines = lines ++ (10 ∷ [])

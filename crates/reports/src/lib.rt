@@ -6,8 +6,9 @@ use judge::check_finding;
 use judge::refusal_finding;
 use texts::Text;
 ghost use mathlib.Core.Path.{_≡_};
+ghost use lib.Dec.{eqb};
 ghost use Rattle.texts.specs.Texts.{textOf};
-ghost use Rattle.reports.specs.Reports.{reportOf, walkOf};
+ghost use Rattle.reports.specs.Reports.{reportOf, walkOf, ended};
 
 // What the report says of a picture: two lines with `end` between them, or one.
 pub fn report(picture: &[u8], end: u8) -> Text
@@ -17,7 +18,7 @@ pub fn report(picture: &[u8], end: u8) -> Text
 }
 
 // Where a packet goes, or why that is not answered; `config` tells a configuration request.
-pub fn walked(config: bool, answer: WalkAnswer) -> Text
+fn walked(config: bool, answer: WalkAnswer) -> Text
     ensures { λ r. ⌜ r ≡ textOf (walkOf config answer) ⌝ }
 {
     let outcome = answer.outcome;
@@ -26,4 +27,18 @@ pub fn walked(config: bool, answer: WalkAnswer) -> Text
         Outcome::Refused(r) => texts::refused_text(refusal_finding(r)),
         Outcome::Ended(end) => texts::walk_text(config, end, path),
     }
+}
+
+// All that the program `report` prints.
+pub fn report_lines(picture: &[u8]) -> Text
+    ensures { λ r. ⌜ r ≡ textOf (ended (reportOf (now (picture .entry)) 10)) ⌝ }
+{
+    report(picture, b'\n').with(b"\n")
+}
+
+// All that the program `route` prints for a packet of this kind; 2 is a configuration request.
+pub fn walk_lines(kind: u32, answer: WalkAnswer) -> Text
+    ensures { λ r. ⌜ r ≡ textOf (ended (walkOf (eqb kind 2) answer)) ⌝ }
+{
+    walked(kind == 2, answer).with(b"\n")
 }

@@ -20,10 +20,13 @@ fn kind_of(word: &[u8]) -> Number {
     Number::Bad
 }
 
-// 255 for the host, or the number of a port.
+// The start that is the host; no port has this number.
+const HOST: u64 = 255;
+
+// The host, or the number of a port.
 fn start_of(word: &[u8]) -> Number {
     if numbers::same(word, b"host") {
-        return Number::Is(255);
+        return Number::Is(HOST);
     }
     numbers::decimal(word)
 }
@@ -74,5 +77,5 @@ fn main() {
         numbers::clamped(start),
         target,
     );
-    reports::walked(kind == 2, answer).with(b"\n").print();
+    reports::walk_lines(numbers::clamped(kind), answer).print();
 }

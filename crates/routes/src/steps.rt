@@ -11,9 +11,9 @@ use ids::PortNo;
 use ids::Target;
 ghost use mathlib.Core.Path.{_≡_};
 ghost use Rattle.chassis.specs.Tree.{root};
-ghost use Rattle.chassis.specs.Walk.{targetOf, functionNumber, decided, decides, soleHolder, deviceOr, comeTo, next};
+ghost use Rattle.chassis.specs.Walk.{targetOf, functionNumber, decided, soleHolder, deviceOr, comeTo, next};
 ghost use Rattle.chassis.specs.Walk.{downward as Walk·downward, upward as Walk·upward, fromBelow, underType0, underType1, atPlace};
-ghost use Rattle.trees.specs.Trees.{countOf, treeOf};
+ghost use Rattle.trees.specs.Trees.{countOf};
 ghost use Rattle.claims.specs.Claims.{chassisOf};
 
 // What a packet is sent to.

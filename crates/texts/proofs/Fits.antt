@@ -1,4 +1,5 @@
--- Nothing is cut off: every line fits the 192 bytes of a text, whatever numbers its types hold. Assumes nothing.
+-- Nothing is cut off: every line fits the 192 bytes of a text with a line end behind it, where ports and numbers are bytes and a
+-- path has at most 32 crossings. Assumes nothing.
 use Prim.Native.Nat.{ℕ, zero, suc, _+_, _*_, _-_, _/_, _%_, _^_, _≤_, _<_}
 use mathlib.Core.Bool.{Bool, true, false, cond}
 use mathlib.Core.List.{List, [], _∷_, _++_}
@@ -85,18 +86,18 @@ ports-short Nobody fit = omega arith
 ports-short (Only p) fit = omega (arith, each-short (p ∷ []) fit)
 ports-short (Both p q) fit = omega (arith, each-short (p ∷ q ∷ []) fit)
 
-pub refused-fits : (f : Finding) → f .number < 256 → Bytes (named (f .ports)) → length (refusedLine f) ≤ 192
+pub refused-fits : (f : Finding) → f .number < 256 → Bytes (named (f .ports)) → length (refusedLine f) ≤ 191
 unfolding refusedLine ascii
 refused-fits f l fit =
     simp length-append (omega (arith, byte-short (f .number) l, target-short (f .target), ports-short (f .ports) fit))
 
 pub report-fits : (count : ℕ) (f : Finding) (end : ℕ) → count < 65536 → f .number < 256 → Bytes (named (f .ports))
-    → length (reportLines count f end) ≤ 192
+    → length (reportLines count f end) ≤ 191
 unfolding reportLines ascii
 report-fits count f end c l fit = go (eqb (f .number) 0)
   where
     go : (clear : Bool)
-        → length (cond clear (ascii "ports" ++ spaced count ++ (end ∷ []) ++ ascii "clear") (refusedLine f)) ≤ 192
+        → length (cond clear (ascii "ports" ++ spaced count ++ (end ∷ []) ++ ascii "clear") (refusedLine f)) ≤ 191
     go true = simp length-append (omega (arith, spaced-short 4 count (omega arith)))
     go false = refused-fits f l fit
 
@@ -116,7 +117,7 @@ bytes-take (suc n) [] fit = tt
 bytes-take (suc n) (p ∷ ports) fit = (fit .0, bytes-take n ports (fit .1))
 
 pub walk-fits : (config : Bool) (end : End) (path : Path) → EndBytes end → Bytes (path .places) → path .count ≤ 32
-    → length (walkLines config end path) ≤ 192
+    → length (walkLines config end path) ≤ 191
 unfolding walkLines ascii
 walk-fits config end path last fit few =
     let crossed = take (path .count) (path .places) in

@@ -4,7 +4,7 @@ use least::Found;
 ghost use mathlib.Core.Path.{_≡_};
 ghost use Prim.Native.Nat.{_<_};
 ghost use Rattle.least.specs.Least.{firstIn};
-ghost use Rattle.vectors.specs.Vectors.{applies, entryOf, isSet, entryIs, hits};
+ghost use Rattle.vectors.specs.Vectors.{entryOf, isSet, entryIs, hits};
 
 // A vector's size in entries, the target where entry 0 begins, and its granularity: an entry stands for 2^scale targets.
 pub struct Settings {

@@ -7,7 +7,7 @@ pub use Rattle.ids.specs.declared.PortNo.{PortNo}
 pub use Rattle.ids.specs.declared.Space.{Space}
 pub use Rattle.ids.specs.declared.Space.the-variants.{Ids, Addresses}
 pub use Rattle.ids.specs.declared.Target.{Target}
-pub use Rattle.ids.specs.declared.Target.the-variants.{Id, Addr}
+pub use Rattle.ids.specs.declared.Target.the-variants.{Id}
 pub use Rattle.ids.specs.Ids.{portNo, noPort}
 pub use Rattle.least.specs.declared.Found.{Found}
 pub use Rattle.least.specs.declared.Found.the-variants.{At, Nothing}

@@ -1,6 +1,6 @@
 -- The words of Walk, from where they are defined.
 pub use Prim.Native.Nat.{ℕ, _%_, _^_}
-pub use mathlib.Core.Bool.{Bool, true, false, cond}
+pub use mathlib.Core.Bool.{cond}
 pub use mathlib.Core.List.{List, [], _∷_}
 pub use mathlib.Core.Path.{_≡_}
 pub use lib.Dec.{eqb}

@@ -1,6 +1,6 @@
 -- The words of Conversion, from where they are defined.
 pub use Prim.Native.Nat.{ℕ, _+_, _/_, _^_}
-pub use mathlib.Core.Bool.{Bool, not, cond, _&&_, _||_}
+pub use mathlib.Core.Bool.{Bool, cond, _&&_, _||_}
 pub use mathlib.Core.List.{List}
 pub use lib.Dec.{eqb}
 pub use Rattle.ids.specs.declared.Target.{Target}
