@@ -44,7 +44,7 @@ enum fpb_number {
     FPB_CHAIN = 7,          /* over 16 ports on a chain; names the port */
     FPB_SETTINGS = 8,       /* vector settings, Memory or Prefetchable bits that may not be; names the port */
     FPB_START = 9,          /* an enabled vector's start breaks its rule; names the port */
-    FPB_VECTORS = 10,       /* a port's vectors start elsewhere (names the port), or do not end at the total (names none) */
+    FPB_VECTORS = 10,       /* a port's vectors start elsewhere (names the port), or do not end at the total (names 255) */
     FPB_SHARED_ID = 11,     /* check: an ID held by two ports at one place, or claimed by its owner; names both, and the ID */
     FPB_SHARED_ADDRESS = 12, /* check: an address held by two ports at one place; names both, and the address */
     FPB_STRAY_ID = 13,      /* check: an ID held by a port and not claimed by its parent; names the port, and the ID */

@@ -221,18 +221,19 @@ module _ (c : Chassis) where
   overlap-given o (Lost p) says = unseen o (says .0 Faulty·Shared)
 
 pub overlap-exactly : (s : List ℕ) → OverlapExactly s
-unfolding checkFinding
-overlap-exactly s h is =
+unfolding checkOf checkFinding
+overlap-exactly s =
     record {
-      exactly = (
-        λ e. overlap-told (chassisOf s) (verdictOf (chassisOf s)) (verdict-says (chassisOf s)) (subst Either number e),
-        λ o. subst Either (sym number) (overlap-given (chassisOf s) o (verdictOf (chassisOf s)) (verdict-says (chassisOf s))),
+      exactly = λ h is. (
+        λ e. overlap-told (chassisOf s) (verdictOf (chassisOf s)) (verdict-says (chassisOf s)) (subst Either (number h is) e),
+        λ o. subst Either (sym (number h is)) (overlap-given (chassisOf s) o (verdictOf (chassisOf s)) (verdict-says (chassisOf s))),
       );
-      shown = λ v e. subst (Says (chassisOf s)) (same v e) (verdict-says (chassisOf s));
+      shown = λ v e. subst (Says (chassisOf s)) (same v (reading s) e) (verdict-says (chassisOf s));
     }
   where
-    number : checkNumber (checkAnswer s) ≡ findingOf (verdictOf (chassisOf s)) .number
-    number = ap checkNumber (judged s h is)
+    number : (h : Header) → reading s ≡ Read h → checkNumber (checkAnswer s) ≡ findingOf (verdictOf (chassisOf s)) .number
+    number h is = ap checkNumber (judged s h is)
 
-    same : (v : Verdict) → checkAnswer s ≡ Judged v → verdictOf (chassisOf s) ≡ v
-    same v e = let j = judged s h is in cc
+    same : (v : Verdict) (got : Reading) → checkOf got s ≡ Judged v → verdictOf (chassisOf s) ≡ v
+    same v (NotRead r) e = impossible (cc)
+    same v (Read h) e = cc

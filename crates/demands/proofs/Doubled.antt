@@ -69,4 +69,4 @@ doubled-fails = rw doubled-shown
 
 -- and by the other half of demand 3 it has an overlap
 pub doubled-overlaps : Overlap (chassisOf doubled)
-doubled-overlaps = overlap-exactly doubled fourPorts (reads 3) .exactly .0 (inl doubled-fails)
+doubled-overlaps = overlap-exactly doubled .exactly fourPorts (reads 3) .0 (inl doubled-fails)

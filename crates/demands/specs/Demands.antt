@@ -69,9 +69,6 @@ pub record Overlap (c : Chassis) : Type 0 where
 
 -- Its other half: "a picture that reads fails for overlap exactly if some ID or address has two sibling holders, or some port claims
 -- its own ID; the least such target is shown, with its ports"
-pub record FailsExactly (s : List ℕ) : Type 0 where
-  pub exactly : ((checkNumber (checkAnswer s) ≡ 11) ⊎ (checkNumber (checkAnswer s) ≡ 12)) ↔ Overlap (chassisOf s)
+pub record OverlapExactly (s : List ℕ) : Type 0 where
+  pub exactly : (h : Header) → reading s ≡ Read h → ((checkNumber (checkAnswer s) ≡ 11) ⊎ (checkNumber (checkAnswer s) ≡ 12)) ↔ Overlap (chassisOf s)
   pub shown : (v : Verdict) → checkAnswer s ≡ Judged v → Says (chassisOf s) v
-
-abbrev pub OverlapExactly : List ℕ → Type 0
-OverlapExactly s = (h : Header) → reading s ≡ Read h → FailsExactly s
