@@ -1,4 +1,5 @@
 // The answer lines, each written at once.
+use answers::ANSWER_BYTES;
 use chassis::Conversion;
 use ids::Rid;
 use ids::Target;
@@ -20,10 +21,10 @@ fn with_byte(text: Text, b: u8) -> Text {
 }
 
 // The number that a call returned, and the 40 bytes.
-fn print_call(number: u32, bytes: &[u8; 40]) {
+fn print_call(number: u32, bytes: &[u8; ANSWER_BYTES]) {
     let mut text = Text::new().with_decimal(number as u64).with(b" ");
     let mut i = 0;
-    while i < 40 {
+    while i < ANSWER_BYTES {
         text = with_byte(text, bytes[i]);
         i += 1;
     }
@@ -31,13 +32,13 @@ fn print_call(number: u32, bytes: &[u8; 40]) {
 }
 
 pub fn print_check(picture: &[u8]) {
-    let mut bytes = [0u8; 40];
+    let mut bytes = [0u8; ANSWER_BYTES];
     let number = fiswalend::fpb_check(picture, &mut bytes);
     print_call(number, &bytes);
 }
 
 pub fn print_walk(picture: &[u8], kind: u32, start: u32, target: u64) {
-    let mut bytes = [0u8; 40];
+    let mut bytes = [0u8; ANSWER_BYTES];
     let number = fiswalend::fpb_walk(picture, &mut bytes, kind, start, target);
     print_call(number, &bytes);
 }
