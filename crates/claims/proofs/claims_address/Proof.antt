@@ -1,5 +1,4 @@
 use Rattle.claims.specs.Decoders.{claimsAddress}
-use borrow.Author.Needs.{needs}
 use Rattle.claims.proofs.claims_address.Statement.{statement}
 use Rattle.claims.proofs.claims_address.Tie as tie
 
@@ -11,12 +10,12 @@ pub claims-address-spec : {M : Type 1} → statement M
 claims-address-spec =
     tie.close
     (tie.spec
-    (λ c κs. search needs)
-    (λ c κs. search needs)
-    (λ c κs. search needs)
-    (λ c κs. search needs)
-    (λ c κs. search needs)
-    (λ c κs. search needs)
-    (λ c κs. search needs)
-    (λ c κs. search needs)
+    (λ c κs. tt)
+    (λ c κs. tt)
+    (λ c κs. tt)
+    (λ c κs. tt)
+    (λ c κs. tt)
+    (λ c κs. tt)
+    (λ c κs. tt)
+    (λ c κs. tt)
     returns)

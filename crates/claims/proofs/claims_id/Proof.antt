@@ -1,5 +1,5 @@
+use native.Mathlib.Omega.{arith}
 use Rattle.claims.specs.Decoders.{claimsId}
-use borrow.Author.Needs.{needs}
 use Rattle.claims.proofs.claims_id.Statement.{statement}
 use Rattle.claims.proofs.claims_id.Tie as tie
 
@@ -11,9 +11,9 @@ pub claims-id-spec : {M : Type 1} → statement M
 claims-id-spec =
     tie.close
     (tie.spec
-    (λ c κs. search needs)
-    (λ c κs. search needs)
-    (λ c κs. search needs)
-    (λ c. search needs)
-    (λ c κs. search needs)
+    (λ c κs. tt)
+    (λ c κs. tt)
+    (λ c κs. tt)
+    (λ c. omega arith)
+    (λ c κs. tt)
     returns)

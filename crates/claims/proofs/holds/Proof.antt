@@ -1,5 +1,4 @@
 use Rattle.chassis.specs.Chassis.{holds}
-use borrow.Author.Needs.{needs}
 use Rattle.claims.proofs.holds.Statement.{statement}
 use Rattle.claims.proofs.holds.Tie as tie
 
@@ -8,4 +7,4 @@ unfolding holds
 returns c = rw (c .claims .ensures, c .before .is-own .ensures)
 
 pub holds-spec : {M : Type 1} → statement M
-holds-spec = tie.close (tie.spec (λ c κs. search needs) (λ c κs. search needs) returns)
+holds-spec = tie.close (tie.spec (λ c κs. tt) (λ c κs. tt) returns)

@@ -6,4 +6,4 @@ returns : tie.Need-returns
 returns c = rw (c .before .before .before .before .t .given .1) (rw (c .before .before .own-id-at .ensures))
 
 pub is-own-spec : {M : Type 1} → statement M
-is-own-spec = tie.close (tie.spec (λ c. search needs) (λ c κs. search needs) (λ c. search needs) returns (λ c. search needs))
+is-own-spec = tie.close (tie.spec (λ c. search needs) (λ c κs. tt) (λ c. search needs) returns (λ c. search needs))

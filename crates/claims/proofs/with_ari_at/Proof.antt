@@ -1,4 +1,3 @@
-use borrow.Author.Needs.{needs}
 use Rattle.claims.proofs.with_ari_at.Statement.{statement}
 use Rattle.claims.proofs.with_ari_at.Tie as tie
 
@@ -6,4 +5,4 @@ returns : tie.Need-returns
 returns c = rw (c .with-ari .ensures, c .before .port-at .ensures)
 
 pub with-ari-at-spec : {M : Type 1} → statement M
-with-ari-at-spec = tie.close (tie.spec (λ c κs. search needs) (λ c κs. search needs) returns)
+with-ari-at-spec = tie.close (tie.spec (λ c κs. tt) (λ c κs. tt) returns)

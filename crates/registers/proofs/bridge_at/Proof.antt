@@ -1,3 +1,4 @@
+use native.Mathlib.Omega.{arith}
 use borrow.Author.Needs.{needs}
 use Rattle.registers.specs.Record.{bridgeAt}
 use Rattle.registers.proofs.bridge_at.Statement.{statement}
@@ -23,24 +24,24 @@ pub bridge-at-spec : {M : Type 1} → statement M
 bridge-at-spec =
     tie.close
     (tie.spec
-    (λ c. search needs)
+    (λ c. omega arith)
     (λ c κs. search needs)
-    (λ c. search needs)
+    (λ c. omega arith)
+    (λ c κs. tt)
+    (λ c. omega arith)
+    (λ c κs. tt)
+    (λ c. omega arith)
     (λ c κs. search needs)
-    (λ c. search needs)
+    (λ c. omega arith)
     (λ c κs. search needs)
-    (λ c. search needs)
+    (λ c. omega arith)
     (λ c κs. search needs)
-    (λ c. search needs)
+    (λ c. omega arith)
     (λ c κs. search needs)
-    (λ c. search needs)
+    (λ c. omega arith)
     (λ c κs. search needs)
-    (λ c. search needs)
+    (λ c. omega arith)
     (λ c κs. search needs)
-    (λ c. search needs)
-    (λ c κs. search needs)
-    (λ c. search needs)
-    (λ c κs. search needs)
-    (λ c. search needs)
+    (λ c. omega arith)
     (λ c κs. search needs)
     returns)

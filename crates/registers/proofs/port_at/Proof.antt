@@ -1,3 +1,4 @@
+use native.Mathlib.Omega.{arith}
 use Rattle.registers.specs.Record.{portAt}
 use borrow.Author.Needs.{needs}
 use Rattle.registers.proofs.port_at.Statement.{statement}
@@ -20,17 +21,17 @@ pub port-at-spec : {M : Type 1} → statement M
 port-at-spec =
     tie.close
     (tie.spec
-    (λ c. search needs)
+    (λ c. omega arith)
+    (λ c κs. search needs)
+    (λ c κs. tt)
+    (λ c. omega arith)
+    (λ c κs. tt)
+    (λ c. omega arith)
+    (λ c κs. search needs)
+    (λ c. omega arith)
     (λ c κs. search needs)
     (λ c κs. search needs)
-    (λ c. search needs)
     (λ c κs. search needs)
-    (λ c. search needs)
-    (λ c κs. search needs)
-    (λ c. search needs)
-    (λ c κs. search needs)
-    (λ c κs. search needs)
-    (λ c κs. search needs)
-    (λ c. search needs)
+    (λ c. omega arith)
     (λ c κs. search needs)
     returns)

@@ -7,4 +7,4 @@ returns c = rw (c .before .before .t .given .1) (c .converted-id .ensures)
 
 pub conversion-spec : {M : Type 1} → statement M
 conversion-spec =
-    tie.close (tie.spec (λ c. search needs) (λ c κs. search needs) (λ c. search needs) returns (λ c. search needs))
+    tie.close (tie.spec (λ c. search needs) (λ c κs. tt) (λ c. search needs) returns (λ c. search needs))

@@ -1,5 +1,4 @@
 use Rattle.claims.specs.Conversion.{convertedByBus}
-use borrow.Author.Needs.{needs}
 use Rattle.claims.proofs.conversions.converted_by_bus.Statement.{statement}
 use Rattle.claims.proofs.conversions.converted_by_bus.Tie as tie
 
@@ -19,10 +18,10 @@ pub converted-by-bus-spec : {M : Type 1} → statement M
 converted-by-bus-spec =
     tie.close
     (tie.spec
-    (λ c κs. search needs)
-    (λ c κs. search needs)
-    (λ c κs. search needs)
-    (λ c κs. search needs)
+    (λ c κs. tt)
+    (λ c κs. tt)
+    (λ c κs. tt)
+    (λ c κs. tt)
     returns
     returns-2
     returns-3)

@@ -1,5 +1,4 @@
 use Rattle.claims.specs.Conversion.{converted}
-use borrow.Author.Needs.{needs}
 use Rattle.claims.proofs.conversions.converted_id.Statement.{statement}
 use Rattle.claims.proofs.conversions.converted_id.Tie as tie
 
@@ -19,11 +18,11 @@ pub converted-id-spec : {M : Type 1} → statement M
 converted-id-spec =
     tie.close
     (tie.spec
-    (λ c κs. search needs)
-    (λ c κs. search needs)
-    (λ c κs. search needs)
-    (λ c κs. search needs)
+    (λ c κs. tt)
+    (λ c κs. tt)
+    (λ c κs. tt)
+    (λ c κs. tt)
     returns
-    (λ c κs. search needs)
+    (λ c κs. tt)
     returns-2
     returns-3)

@@ -1,7 +1,7 @@
+use native.Mathlib.Omega.{arith}
 use Rattle.claims.proofs.Laws.{last-unit}
 use borrow.Author.Tests.{ne-eqb}
 use Rattle.claims.specs.Conversion.{inSecondaryRange}
-use borrow.Author.Needs.{needs}
 use Rattle.claims.proofs.conversions.in_secondary_range.Statement.{statement}
 use Rattle.claims.proofs.conversions.in_secondary_range.Tie as tie
 
@@ -21,13 +21,13 @@ pub in-secondary-range-spec : {M : Type 1} → statement M
 in-secondary-range-spec =
     tie.close
     (tie.spec
-    (λ c κs. search needs)
-    (λ c κs. search needs)
-    (λ c κs. search needs)
-    (λ c. search needs)
+    (λ c κs. tt)
+    (λ c κs. tt)
+    (λ c κs. tt)
+    (λ c. omega arith)
     returns
-    (λ c κs. search needs)
-    (λ c κs. search needs)
-    (λ c. search needs)
+    (λ c κs. tt)
+    (λ c κs. tt)
+    (λ c. omega arith)
     returns-2
     returns-3)

@@ -1,5 +1,4 @@
 use Rattle.claims.specs.Decoders.{highClaims}
-use borrow.Author.Needs.{needs}
 use Rattle.claims.proofs.decoders.high_claims.Statement.{statement}
 use Rattle.claims.proofs.decoders.high_claims.Tie as tie
 
@@ -8,4 +7,4 @@ unfolding highClaims
 returns c = rw (c .vector-claims .ensures)
 
 pub high-claims-spec : {M : Type 1} → statement M
-high-claims-spec = tie.close (tie.spec (λ c κs. search needs) returns)
+high-claims-spec = tie.close (tie.spec (λ c κs. tt) returns)

@@ -1,5 +1,5 @@
+use native.Mathlib.Omega.{arith}
 use Rattle.claims.specs.Decoders.{prefetchableClaims}
-use borrow.Author.Needs.{needs}
 use Rattle.claims.proofs.decoders.prefetchable_claims.Statement.{statement}
 use Rattle.claims.proofs.decoders.prefetchable_claims.Tie as tie
 
@@ -11,11 +11,11 @@ pub prefetchable-claims-spec : {M : Type 1} → statement M
 prefetchable-claims-spec =
     tie.close
     (tie.spec
-    (λ c κs. search needs)
-    (λ c κs. search needs)
-    (λ c. search needs)
-    (λ c κs. search needs)
-    (λ c κs. search needs)
-    (λ c. search needs)
-    (λ c. search needs)
+    (λ c κs. tt)
+    (λ c κs. tt)
+    (λ c. omega arith)
+    (λ c κs. tt)
+    (λ c κs. tt)
+    (λ c. omega arith)
+    (λ c. omega arith)
     returns)

@@ -1,3 +1,4 @@
+use native.Mathlib.Omega.{arith}
 use borrow.Author.Tests.{ne-eqb}
 use borrow.Author.Needs.{needs}
 use Rattle.claims.proofs.decoders.upper_of.Statement.{statement}
@@ -10,4 +11,4 @@ returns-2 : tie.Need-returns-2
 returns-2 c = (simp (ne-eqb _ _ (c .if1 .left)), search needs)
 
 pub upper-of-spec : {M : Type 1} → statement M
-upper-of-spec = tie.close (tie.spec (λ c. search needs) returns returns-2)
+upper-of-spec = tie.close (tie.spec (λ c. omega arith) returns returns-2)

@@ -1,4 +1,3 @@
-use borrow.Author.Needs.{needs}
 use Rattle.registers.specs.Vectors.{settingsOf}
 use Prim.Native.Nat.{_+_}
 use native.Mathlib.Omega.{arith}
@@ -21,9 +20,9 @@ pub settings-spec : {M : Type 1} → statement M
 settings-spec =
     tie.close
     (tie.spec
-    (λ c κs. search needs)
-    (λ c κs. search needs)
-    (λ c κs. search needs)
-    (λ c κs. search needs)
-    (λ c. search needs)
+    (λ c κs. tt)
+    (λ c κs. tt)
+    (λ c κs. tt)
+    (λ c κs. tt)
+    (λ c. omega arith)
     returns)

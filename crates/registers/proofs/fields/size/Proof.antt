@@ -1,5 +1,5 @@
+use native.Mathlib.Omega.{arith}
 use Rattle.registers.proofs.Laws.{size-small}
-use borrow.Author.Needs.{needs}
 use Rattle.registers.proofs.Laws.{size-whole}
 use Prim.Native.Nat.{ℕ, _*_, _^_}
 use mathlib.Core.Path.{ap, _∙_}
@@ -13,4 +13,4 @@ returns c = (
 )
 
 pub size-spec : {M : Type 1} → statement M
-size-spec = tie.close (tie.spec (λ c κs. search needs) (λ c. search needs) (λ c. search needs) returns)
+size-spec = tie.close (tie.spec (λ c κs. tt) (λ c. omega arith) (λ c. omega arith) returns)

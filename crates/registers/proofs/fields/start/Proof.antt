@@ -1,3 +1,4 @@
+use native.Mathlib.Omega.{arith}
 use borrow.Author.Needs.{needs}
 use Rattle.registers.proofs.fields.start.Statement.{statement}
 use Rattle.registers.proofs.fields.start.Tie as tie
@@ -16,17 +17,17 @@ start-spec =
     tie.close
     (tie.spec
     (λ c. search needs)
+    (λ c. omega arith)
+    (λ c. omega arith)
     (λ c. search needs)
+    (λ c. omega arith)
+    (λ c. omega arith)
     (λ c. search needs)
-    (λ c. search needs)
-    (λ c. search needs)
-    (λ c. search needs)
-    (λ c. search needs)
-    (λ c. search needs)
-    (λ c. search needs)
-    (λ c. search needs)
-    (λ c. search needs)
-    (λ c. search needs)
+    (λ c. omega arith)
+    (λ c. omega arith)
+    (λ c. omega arith)
+    (λ c. omega arith)
+    (λ c. omega arith)
     returns
     returns-2
     returns-3)

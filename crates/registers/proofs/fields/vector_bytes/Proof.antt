@@ -1,5 +1,4 @@
 use native.Mathlib.Omega.{arith}
-use borrow.Author.Needs.{needs}
 use Rattle.registers.specs.Vectors.{vectorBytes}
 use Rattle.registers.proofs.fields.vector_bytes.Statement.{statement}
 use Rattle.registers.proofs.fields.vector_bytes.Tie as tie
@@ -13,4 +12,4 @@ unfolding vectorBytes
 returns-2 c = (rw (← c .before .supported .ensures, c .if1 .left), omega arith)
 
 pub vector-bytes-spec : {M : Type 1} → statement M
-vector-bytes-spec = tie.close (tie.spec (λ c κs. search needs) (λ c κs. search needs) returns returns-2)
+vector-bytes-spec = tie.close (tie.spec (λ c κs. tt) (λ c κs. tt) returns returns-2)

@@ -1,3 +1,4 @@
+use native.Mathlib.Omega.{arith}
 use Rattle.registers.specs.Record.{portAt}
 use borrow.Author.Needs.{needs}
 use Rattle.registers.proofs.records.kind_at.Statement.{statement}
@@ -8,4 +9,4 @@ unfolding portAt
 returns c = rw (← c .before .record-at .ensures .0) (c .u8-at .ensures)
 
 pub kind-at-spec : {M : Type 1} → statement M
-kind-at-spec = tie.close (tie.spec (λ c. search needs) (λ c κs. search needs) (λ c κs. search needs) returns)
+kind-at-spec = tie.close (tie.spec (λ c. omega arith) (λ c κs. search needs) (λ c κs. tt) returns)

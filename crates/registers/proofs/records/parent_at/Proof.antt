@@ -1,3 +1,4 @@
+use native.Mathlib.Omega.{arith}
 use Rattle.registers.specs.Record.{portAt}
 use borrow.Author.Needs.{needs}
 use Rattle.registers.proofs.records.parent_at.Statement.{statement}
@@ -9,4 +10,4 @@ returns c = rw (← c .before .record-at .ensures .0) (c .u8-at .ensures)
 
 pub parent-at-spec : {M : Type 1} → statement M
 parent-at-spec =
-    tie.close (tie.spec (λ c. search needs) (λ c κs. search needs) (λ c. search needs) (λ c κs. search needs) returns)
+    tie.close (tie.spec (λ c. omega arith) (λ c κs. search needs) (λ c. omega arith) (λ c κs. tt) returns)

@@ -1,3 +1,4 @@
+use native.Mathlib.Omega.{arith}
 use mathlib.Core.Path.{refl}
 use Rattle.registers.specs.Record.{recordAt}
 use borrow.Author.Needs.{needs}
@@ -9,4 +10,4 @@ unfolding recordAt
 returns c = (refl, search needs)
 
 pub record-at-spec : {M : Type 1} → statement M
-record-at-spec = tie.close (tie.spec (λ c. search needs) (λ c. search needs) returns)
+record-at-spec = tie.close (tie.spec (λ c. omega arith) (λ c. omega arith) returns)

@@ -1,3 +1,4 @@
+use native.Mathlib.Omega.{arith}
 use borrow.Author.Needs.{needs}
 use Rattle.registers.specs.Rules.{granularityAllowed}
 use Rattle.registers.proofs.rules.granularity_allowed.Statement.{statement}
@@ -19,11 +20,11 @@ pub granularity-allowed-spec : {M : Type 1} → statement M
 granularity-allowed-spec =
     tie.close
     (tie.spec
-    (λ c κs. search needs)
-    (λ c κs. search needs)
+    (λ c κs. tt)
+    (λ c κs. tt)
     (λ c. search needs)
     (λ c. search needs)
-    (λ c. search needs)
+    (λ c. omega arith)
     (λ c. search needs)
     returns
     returns-2

@@ -1,6 +1,6 @@
+use native.Mathlib.Omega.{arith}
 use lib.Pow.{pow-pos}
 use Rattle.registers.proofs.Laws.{granule-whole}
-use borrow.Author.Needs.{needs}
 use Rattle.registers.proofs.rules.granule.Statement.{statement}
 use Rattle.registers.proofs.rules.granule.Tie as tie
 
@@ -8,4 +8,4 @@ returns : tie.Need-returns
 returns c = (granule-whole _ (c .pre), rw (granule-whole _ (c .pre)) (pow-pos _))
 
 pub granule-spec : {M : Type 1} → statement M
-granule-spec = tie.close (tie.spec (λ c. search needs) returns)
+granule-spec = tie.close (tie.spec (λ c. omega arith) returns)

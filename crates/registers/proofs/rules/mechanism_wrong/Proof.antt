@@ -1,5 +1,4 @@
 use Rattle.registers.specs.Rules.{mechanismWrong}
-use borrow.Author.Needs.{needs}
 use Rattle.registers.proofs.rules.mechanism_wrong.Statement.{statement}
 use Rattle.registers.proofs.rules.mechanism_wrong.Tie as tie
 
@@ -11,10 +10,10 @@ pub mechanism-wrong-spec : {M : Type 1} → statement M
 mechanism-wrong-spec =
     tie.close
     (tie.spec
-    (λ c κs. search needs)
-    (λ c κs. search needs)
-    (λ c κs. search needs)
-    (λ c κs. search needs)
-    (λ c κs. search needs)
-    (λ c κs. search needs)
+    (λ c κs. tt)
+    (λ c κs. tt)
+    (λ c κs. tt)
+    (λ c κs. tt)
+    (λ c κs. tt)
+    (λ c κs. tt)
     returns)

@@ -1,5 +1,4 @@
 use Rattle.registers.specs.Rules.{settingsWrong}
-use borrow.Author.Needs.{needs}
 use Rattle.registers.proofs.rules.settings_wrong.Statement.{statement}
 use Rattle.registers.proofs.rules.settings_wrong.Tie as tie
 
@@ -11,8 +10,8 @@ pub settings-wrong-spec : {M : Type 1} → statement M
 settings-wrong-spec =
     tie.close
     (tie.spec
-    (λ c κs. search needs)
-    (λ c κs. search needs)
-    (λ c κs. search needs)
-    (λ c κs. search needs)
+    (λ c κs. tt)
+    (λ c κs. tt)
+    (λ c κs. tt)
+    (λ c κs. tt)
     returns)

@@ -18,4 +18,4 @@ returns-3 c = rw (c .before .before .size-code .ensures .0, c .enum-told3 .given
 pub size-reserved-spec : {M : Type 1} → statement M
 size-reserved-spec =
     tie.close
-    (tie.spec (λ c κs. search needs) (λ c. search needs) (λ c. search needs) (λ c. search needs) returns returns-2 returns-3)
+    (tie.spec (λ c κs. tt) (λ c. search needs) (λ c. search needs) (λ c. search needs) returns returns-2 returns-3)

@@ -9,4 +9,4 @@ returns c = cc
 
 pub start-broken-spec : {M : Type 1} → statement M
 start-broken-spec =
-    tie.close (tie.spec (λ c κs. search needs) (λ c κs. search needs) (λ c κs. search needs) (λ c. search needs) returns)
+    tie.close (tie.spec (λ c κs. tt) (λ c κs. tt) (λ c κs. search needs) (λ c. search needs) returns)

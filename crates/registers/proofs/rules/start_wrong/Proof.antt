@@ -1,5 +1,4 @@
 use Rattle.registers.specs.Rules.{startWrong}
-use borrow.Author.Needs.{needs}
 use Rattle.registers.proofs.rules.start_wrong.Statement.{statement}
 use Rattle.registers.proofs.rules.start_wrong.Tie as tie
 
@@ -11,9 +10,9 @@ pub start-wrong-spec : {M : Type 1} → statement M
 start-wrong-spec =
     tie.close
     (tie.spec
-    (λ c κs. search needs)
-    (λ c κs. search needs)
-    (λ c κs. search needs)
-    (λ c κs. search needs)
-    (λ c κs. search needs)
+    (λ c κs. tt)
+    (λ c κs. tt)
+    (λ c κs. tt)
+    (λ c κs. tt)
+    (λ c κs. tt)
     returns)

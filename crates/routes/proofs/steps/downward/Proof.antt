@@ -14,4 +14,4 @@ returns-2 c = rw (c .before .before .before .packet .given .1, ← c .before .co
 pub downward-spec : {M : Type 1} → statement M
 downward-spec =
     tie.close
-    (tie.spec (λ c. search needs) (λ c. search needs) (λ c κs. search needs) (λ c κs. search needs) returns returns-2)
+    (tie.spec (λ c. search needs) (λ c. search needs) (λ c κs. tt) (λ c κs. tt) returns returns-2)

@@ -19,12 +19,12 @@ pub from-above-spec : {M : Type 1} → statement M
 from-above-spec =
     tie.close
     (tie.spec
-    (λ c κs. search needs)
-    (λ c κs. search needs)
-    (λ c. search needs)
+    (λ c κs. tt)
     (λ c κs. search needs)
     (λ c. search needs)
     (λ c κs. search needs)
+    (λ c. search needs)
+    (λ c κs. tt)
     (λ c. search needs)
     returns
     returns-2

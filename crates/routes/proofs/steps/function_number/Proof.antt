@@ -1,3 +1,4 @@
+use native.Mathlib.Omega.{arith}
 use Rattle.chassis.specs.Walk.{functionNumber}
 use borrow.Author.Needs.{needs}
 use Rattle.routes.proofs.steps.function_number.Statement.{statement}
@@ -22,8 +23,8 @@ function-number-spec =
     (λ c. search needs)
     (λ c. search needs)
     returns
-    (λ c κs. search needs)
-    (λ c. search needs)
-    (λ c κs. search needs)
+    (λ c κs. tt)
+    (λ c. omega arith)
+    (λ c κs. tt)
     returns-2
     returns-3)

@@ -1,5 +1,4 @@
 use Rattle.chassis.specs.Walk.{upward}
-use borrow.Author.Needs.{needs}
 use Rattle.routes.proofs.steps.upward.Statement.{statement}
 use Rattle.routes.proofs.steps.upward.Tie as tie
 
@@ -13,4 +12,4 @@ returns-2 c = rw (← c .before .before .before .claims .ensures, c .before .bef
 
 pub upward-spec : {M : Type 1} → statement M
 upward-spec =
-    tie.close (tie.spec (λ c κs. search needs) (λ c κs. search needs) (λ c κs. search needs) returns returns-2)
+    tie.close (tie.spec (λ c κs. tt) (λ c κs. tt) (λ c κs. tt) returns returns-2)
