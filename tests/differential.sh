@@ -4,7 +4,7 @@
 # edges of reading and PICTURES random pictures of seed SEED. A longer run with another seed: tests/differential.sh 7 50000
 # A difference prints the picture's file, the call and both answers. Last line: N passed, M failed, counting answers and tests.
 set -u
-cd "$(dirname "$0")/.."
+cd "$(dirname "$0")/.." || exit 2
 . tools/kit.sh
 seed=${1:-1} pictures=${2:-1000}
 passed=0 failed=0

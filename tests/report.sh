@@ -2,7 +2,7 @@
 # Runs the report program on every sample and on input that is empty, too long and endless, and compares what it prints.
 # Last line: N passed, M failed.
 set -u
-cd "$(dirname "$0")/.."
+cd "$(dirname "$0")/.." || exit 2
 . tools/kit.sh
 build report || { echo "0 passed, 1 failed"; exit 1; }
 passed=0 failed=0

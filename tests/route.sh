@@ -2,7 +2,7 @@
 # Runs the route program on the cases of tests/route.cases, one to a line: SAMPLE KIND START TARGET => what it prints, with a
 # slash for each line end. Last line: N passed, M failed.
 set -u
-cd "$(dirname "$0")/.."
+cd "$(dirname "$0")/.." || exit 2
 . tools/kit.sh
 build route || { echo "0 passed, 1 failed"; exit 1; }
 passed=0 failed=0

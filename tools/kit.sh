@@ -1,4 +1,5 @@
-# Sourced: finds the kit by rt on the PATH, builds, and runs x86-64 programs on either kind of machine.
+# shellcheck shell=bash
+# Sourced: finds the kit by rt on the PATH, and compiles, links and runs x86-64 programs with it on either kind of machine.
 kit_home() {
     local rt
     rt=$(command -v rt) || { echo "rt, the command of the Rattle kit, is not on the PATH" >&2; return 1; }
@@ -19,6 +20,20 @@ run_x86() {
     emulator=$tools/bin/qemu-x86_64
     [ -x "$emulator" ] || emulator=
     ${emulator:+"$emulator"} "$tools/lib/ld-linux-x86-64.so.2" --library-path "$tools/lib" "$@"
+}
+
+# put FILE AT: copies a file in one step, so that what runs from AT goes on with the old one.
+put() {
+    cp -L "$1" "$2.new" && mv "$2.new" "$2"
+}
+
+# lay_loader FOLDER: copies what runs an x86-64 program, so that it needs the kit no more: loader, C library, emulator.
+lay_loader() {
+    local tools file
+    tools=$(kit_tools) && mkdir -p "$1" || return 1
+    for file in lib/ld-linux-x86-64.so.2 lib/libc.so.6 bin/qemu-x86_64 qemu-copyright; do
+        [ ! -e "$tools/$file" ] || put "$tools/$file" "$1/${file##*/}" || return 1
+    done
 }
 
 # run_built NAME ARGS..: runs a program of target/bin.
@@ -42,16 +57,4 @@ kit_link() {
     shift
     tools=$(kit_tools) || return 1
     "$(dirname "$tools")/bin/rattle-link" --target x86_64-unknown-linux-gnu --toolchain "$tools" -o "$out" "$@"
-}
-
-# build NAME: proves and links what is not built yet, or has changed; quiet unless it fails.
-build() {
-    local log
-    log=$(mktemp)
-    if ! rt check "$1" >"$log" 2>&1; then
-        cat "$log" >&2
-        rm -f "$log"
-        return 1
-    fi
-    rm -f "$log"
 }

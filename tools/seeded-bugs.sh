@@ -2,7 +2,7 @@
 # seeded-bugs.sh [SEED [PICTURES]]: small wrong edits of the second program, one at a time in a copy, each held against the
 # answers of the proved judge to the same batches. Prints a row for each; the status is 0 only where every edit is found.
 set -u
-cd "$(dirname "$0")/.."
+cd "$(dirname "$0")/.." || exit 2
 . tools/kit.sh
 seed=${1:-1} pictures=${2:-400}
 work=$PWD/target/seeded-bugs

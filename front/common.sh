@@ -1,0 +1,148 @@
+# shellcheck shell=bash disable=SC2154
+# Sourced by fpb: what its commands share. A command's file begins with its usage and its help as comments, and has one
+# function `run`, which is handed the command's arguments and ends by a status.
+self=fpb
+
+# say WORDS: a message on standard error
+say() {
+    echo "$self: $1" >&2
+}
+
+# is_command WORD: whether there is such a command
+is_command() {
+    [[ $1 =~ ^[a-z]+$ ]] && [ "$1" != common ] && [ -f "$front/$1.sh" ]
+}
+
+# usage_of COMMAND: its usage, which is the second line of its file; help_of COMMAND: the comment below that
+usage_of() {
+    sed -n '2s/^# //p' "$front/$1.sh"
+}
+help_of() {
+    sed -n '3,${ /^#/!q; s/^# \{0,1\}//p }' "$front/$1.sh"
+}
+
+# help_on COMMAND: its usage and help, on standard output
+help_on() {
+    give "usage: $(usage_of "$1")"$'\n\n'"$(help_of "$1")"
+    exit 0
+}
+
+# bad_usage WORDS: says what is wrong and how it is right, and ends
+bad_usage() {
+    say "$1"
+    if [ "$self" = fpb ]; then
+        echo "usage: fpb COMMAND ..; \`fpb help' lists the commands" >&2
+    else
+        echo "usage: $(usage_of "${self#fpb }")" >&2
+    fi
+    exit 2
+}
+
+# give TEXT: prints it; an output that cannot be written ends the command
+give() {
+    printf '%s\n' "$1" 2>/dev/null || { say "standard output cannot be written"; exit 2; }
+}
+
+# options KNOWN WORDS..: sorts a command's words into `words` and, for the options in KNOWN, `chosen`; `--` ends the options
+chosen='' words=()
+options() {
+    local known=$1 word
+    shift
+    while [ $# -gt 0 ]; do
+        word=$1
+        shift
+        case $word in
+        --) words+=("$@") && return ;;
+        -h | --help) help_on "${self#fpb }" ;;
+        -?*)
+            case " $known " in *" $word "*) ;; *) bad_usage "there is no option \`$word'" ;; esac
+            chosen="$chosen $word "
+            ;;
+        *) words+=("$word") ;;
+        esac
+    done
+}
+
+# target_of KIND WORD: a target's hexadecimal digits, in `target'; KIND addr is an address, any other an ID
+target_of() {
+    local forms="0300, 0x0300, 0300h"
+    [ "$1" = addr ] || forms="$forms or 03:00.0"
+    if [ "$1" != addr ] && [[ $2 =~ ^([0-9a-fA-F]{2}):([01][0-9a-fA-F])\.([0-7])$ ]]; then
+        printf -v target %x $((16#${BASH_REMATCH[1]} * 256 + 16#${BASH_REMATCH[2]} * 8 + BASH_REMATCH[3]))
+        return
+    fi
+    [[ $2 =~ ^0[xX]0*([0-9a-fA-F]+)$ || $2 =~ ^0*([0-9a-fA-F]+)[hH]?$ ]] || bad_usage "TARGET is written as $forms, and not as \`$2'"
+    target=${BASH_REMATCH[1]}
+    [ ${#target} -le 16 ] || bad_usage "TARGET has 64 bits at most, and \`$2' has more"
+}
+
+# take_file WORD..: the picture is read from the file named, or from standard input
+take_file() {
+    [ $# -le 1 ] || bad_usage "one FILE is enough, and \`$2' is another"
+    input=${1:--} input_name=${1:-}
+    if [ "$input" = - ]; then
+        input=/dev/stdin input_name="standard input"
+        { : <&0; } 2>/dev/null || unreadable "is closed"
+        exec 3<&0
+    elif [ $# -eq 1 ] && [ -z "$1" ]; then
+        bad_usage "FILE is empty"
+    else
+        [ -e "$input" ] || unreadable "does not exist"
+        { exec 3<"$input"; } 2>/dev/null || unreadable "cannot be opened"
+    fi
+    [ ! -d "$input" ] || unreadable "is a directory, and not a picture"
+}
+unreadable() {
+    say "$input_name $1"
+    exit 2
+}
+
+# has_program NAME: in a checkout, has it built; says why it is not there
+has_program() {
+    if [ -n "$checkout" ]; then
+        cd "$checkout" || exit 2
+        # shellcheck source=tools/build.sh
+        . tools/build.sh
+        build "$1" 3<&- || exit 2
+    elif [ ! -f "$programs/$1" ]; then
+        say "the program $1 is missing beside this command: install it again"
+        exit 2
+    fi
+}
+
+# run_program NAME ARGS..: an x86-64 program by its own loader, where there is an emulator under that
+run_program() {
+    local base=$programs/x86-64 emulator=$programs/x86-64/qemu-x86_64 name=$1
+    shift
+    [ -x "$emulator" ] || emulator=
+    ${emulator:+"$emulator"} "$base/ld-linux-x86-64.so.2" --library-path "$base" "$programs/$name" "$@"
+}
+
+# ask NAME ARGS..: what the program says of the picture, in `answer`; one byte more than a picture may have is read
+ask() {
+    local said
+    has_program "$1"
+    said=$(
+        head -c 65537 <&3 2>/dev/null | run_program "$@"
+        echo ":${PIPESTATUS[*]}"
+    )
+    answer=${said%:*}
+    answer=${answer%$'\n'}
+    case ${said##*:} in
+    '0 0') ;;
+    *' 0') unreadable "cannot be read" ;;
+    *) no_answer "$1" ;;
+    esac
+}
+
+# no_answer NAME: ends the command where its program has not said what it must
+no_answer() {
+    say "the program $1 did not answer"
+    exit 2
+}
+
+# answered STATUS: prints the answer and ends with the status
+answered() {
+    give "$answer"
+    exit "$1"
+}
