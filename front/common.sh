@@ -65,8 +65,8 @@ options() {
 
 # target_of KIND WORD: a target's hexadecimal digits, in `target'; KIND addr is an address, any other an ID
 target_of() {
-    local forms="0300, 0x0300, 0300h"
-    [ "$1" = addr ] || forms="$forms or 03:00.0"
+    local forms="0300, 0x0300, 0300h or 03:00.0"
+    [ "$1" != addr ] || forms="e0500000, 0xe0500000 or e0500000h"
     if [ "$1" != addr ] && [[ $2 =~ ^([0-9a-fA-F]{2}):([01][0-9a-fA-F])\.([0-7])$ ]]; then
         printf -v target %x $((16#${BASH_REMATCH[1]} * 256 + 16#${BASH_REMATCH[2]} * 8 + BASH_REMATCH[3]))
         return

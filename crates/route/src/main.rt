@@ -2,8 +2,8 @@
 // a device port, TARGET a number in hexadecimal.
 mod numbers;
 
+use libc::STDERR_FILENO;
 use libc::STDIN_FILENO;
-use libc::STDOUT_FILENO;
 use numbers::Number;
 
 // The packet kind that a word names: 0 ID, 1 address, 2 configuration request.
@@ -23,12 +23,18 @@ fn kind_of(word: &[u8]) -> Number {
 // The start that is the host; no port has this number.
 const HOST: u64 = 255;
 
-// The host, or the number of a port.
+// The host, or the number of a port, which 255 is not.
 fn start_of(word: &[u8]) -> Number {
     if numbers::same(word, b"host") {
         return Number::Is(HOST);
     }
-    numbers::decimal(word)
+    let Number::Is(port) = numbers::decimal(word) else {
+        return Number::Bad;
+    };
+    if port == HOST {
+        return Number::Bad;
+    }
+    Number::Is(port)
 }
 
 // The number that argument i stands for: the packet kind, the start and the target, in this order.
@@ -47,7 +53,7 @@ fn argument(i: usize) -> Number {
 // What is said to arguments that are not as they must be.
 fn print_usage() {
     io::write_all(
-        STDOUT_FILENO,
+        STDERR_FILENO,
         b"usage: route id|addr|config START TARGET <PICTURE; START is host or a device port's number, TARGET is hexadecimal\n",
     );
 }
