@@ -79,13 +79,13 @@ target_of() {
 # take_file WORD..: the picture is read from the file named, or from standard input
 take_file() {
     [ $# -le 1 ] || bad_usage "one FILE is enough, and \`$2' is another"
-    input=${1:--} input_name=${1:-}
+    input=${1--}
+    input_name=$input
+    [ -n "$input" ] || bad_usage "FILE is an empty word"
     if [ "$input" = - ]; then
-        input=/dev/stdin input_name="standard input"
-        { : <&0; } 2>/dev/null || unreadable "is closed"
+        input=/dev/fd/0 input_name="standard input"
+        [ -e "$input" ] || unreadable "is closed"
         exec 3<&0
-    elif [ $# -eq 1 ] && [ -z "$1" ]; then
-        bad_usage "FILE is empty"
     else
         [ -e "$input" ] || unreadable "does not exist"
         { exec 3<"$input"; } 2>/dev/null || unreadable "cannot be opened"

@@ -1,6 +1,7 @@
 # shellcheck shell=bash disable=SC2154
 # fpb help [COMMAND]
 # What a command is for, how it is used and what its status means; without COMMAND the list of all.
+# Status: 0, or 2 for bad usage.
 
 # one line for each command: its usage, and the first sentence of its help
 commands() {

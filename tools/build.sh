@@ -51,7 +51,8 @@ attended() {
     local group status signal
     set -m
     (
-        ends_with $$ "$BASHPID" >/dev/null 2>&1 9<&- &
+        group=$BASHPID
+        ends_with $$ "$group" >/dev/null 2>&1 9<&- &
         "$@" </dev/null
         status=$?
         kill $! 2>/dev/null

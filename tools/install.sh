@@ -6,29 +6,27 @@
 #   share/man                    fpb(1) and fiswalend(3)
 # Installed files may be moved together. Status: 0 installed; 1 not proved; 2 bad usage, or a folder that cannot be written to.
 set -eu
-case ${1:-} in
--h | --help)
+if [ "${1:-}" = -h ] || [ "${1:-}" = --help ]; then
     sed -n '2,/^[^#]/s/^# \{0,1\}//p' "$0"
     exit 0
-    ;;
-esac
-case $#:${1:-} in
-1:-* | 1: | [!1]*)
-    echo "usage: install.sh PREFIX; \`install.sh --help' says what is put there" >&2
+fi
+
+# cannot WORDS: says why nothing is installed, and ends
+cannot() {
+    echo "install.sh: $1" >&2
     exit 2
-    ;;
-esac
-prefix=$1
-case ${DESTDIR:+set}:$prefix in
-*:/*) ;;
-set:*)
-    echo "install.sh: with DESTDIR, PREFIX must begin with /, and \`$prefix' does not" >&2
-    exit 2
-    ;;
-*) prefix=$PWD/$prefix ;;
-esac
+}
+
+prefix=${1:-}
+if [ $# -ne 1 ] || [ "${prefix#-}" != "$prefix" ] || [ -z "$prefix" ]; then
+    cannot "one PREFIX is wanted: install.sh PREFIX; \`install.sh --help' says what is put there"
+fi
+if [ "${prefix#/}" = "$prefix" ]; then
+    [ -z "${DESTDIR:-}" ] || cannot "with DESTDIR, PREFIX must begin with /, and \`$prefix' does not"
+    prefix=$PWD/$prefix
+fi
 to=${DESTDIR:-}$prefix
-mkdir -p "$to" 2>/dev/null && [ -w "$to" ] || { echo "install.sh: nothing can be written to $to" >&2; exit 2; }
+if ! mkdir -p "$to" 2>/dev/null || ! [ -w "$to" ]; then cannot "nothing can be written to $to"; fi
 cd "$(dirname "$(readlink -f "$0")")/.."
 self=install.sh
 . tools/build.sh

@@ -1,0 +1,269 @@
+#!/usr/bin/env bash
+# The command fpb as its users meet it: every status and message, input and output that fail, other folders and links, the first
+# run (by a stand-in for rt, so that no test waits for a proof), and the installed command. Last line: N passed, M failed.
+set -u
+cd "$(dirname "$0")/.." || exit 2
+root=$PWD
+self=tests/front.sh
+. tools/build.sh
+for program in report route tree; do build "$program" || { echo "0 passed, 1 failed"; exit 1; }; done
+work=$(mktemp -d)
+chmod 755 "$work"
+trap 'rm -rf "$work"' EXIT
+passed=0 failed=0
+
+# counts PROBLEM: one test, passed if there is no problem
+counts() {
+    if [ -z "$1" ]; then passed=$((passed + 1)); else failed=$((failed + 1)) && echo "front: $1"; fi
+}
+
+# expect STATUS OUT ERR COMMAND..: that a command ends so, and what it prints and says match the patterns; a slash is a line end
+expect() {
+    local wanted="$1|$2|$3" status out err
+    shift 3
+    "$@" >"$work/out" 2>"$work/err"
+    status=$?
+    out=$(tr '\n' / <"$work/out") err=$(tr '\n' / <"$work/err")
+    # shellcheck disable=SC2053 # the right side is a pattern
+    if [[ "$status|$out|$err" == $wanted ]]; then counts ""; else counts "$*: $status|$out|$err and not $wanted"; fi
+}
+
+# from FILE COMMAND.., in_folder FOLDER COMMAND..
+from() { local file=$1; shift; "$@" <"$file"; }
+in_folder() { local folder=$1; shift; (cd "$folder" && "$@"); }
+closed_input() { "$@" <&-; }
+closed_output() { "$@" >&-; }
+full_output() { "$@" >/dev/full; }
+as_nobody() {
+    if [ "$(id -u)" -eq 0 ]; then setpriv --reuid 65534 --regid 65534 --clear-groups "$@"; else "$@"; fi
+}
+
+one=samples/one-port.picture shared=samples/shared-granule.picture
+shared_line='refused 12 addr 00000000e0500000 ports 2 3/'
+report_usage='/usage: fpb report \[--explain\] \[FILE\]/'
+route_usage='/usage: fpb route KIND START TARGET \[FILE\]/'
+
+input_and_output() {
+    expect 0 'ports 1/clear/' '' ./fpb report "$one"
+    expect 0 'ports 1/clear/' '' from "$one" ./fpb report
+    expect 0 'ports 1/clear/' '' from "$one" ./fpb report -
+    expect 1 "$shared_line" '' ./fpb report "$shared"
+    expect 1 'refused 1/' '' from /dev/null ./fpb report
+    expect 1 'refused 1/' '' ./fpb report /dev/zero
+    expect 2 '' 'fpb report: samples is a directory, and not a picture/' ./fpb report samples
+    expect 2 '' 'fpb tree: standard input is a directory, and not a picture/' from samples ./fpb tree
+    expect 2 '' 'fpb report: standard input is closed/' closed_input ./fpb report
+    expect 2 '' 'fpb report: standard input is closed/' closed_input ./fpb report -
+    expect 0 'ports 1/clear/' '' closed_input ./fpb report "$one"
+    expect 2 '' 'fpb route: no such.picture does not exist/' ./fpb route id host 0 "no such.picture"
+    expect 2 '' 'fpb report: /proc/self/mem cannot be read/' ./fpb report /proc/self/mem
+    expect 2 '' 'fpb report: standard output cannot be written/' full_output ./fpb report "$one"
+    expect 2 '' 'fpb report: standard output cannot be written/' full_output ./fpb report "$shared"
+    expect 2 '' 'fpb tree: standard output cannot be written/' closed_output ./fpb tree "$one"
+    expect 2 '' 'fpb: standard output cannot be written/' full_output ./fpb --version
+    expect 2 '' 'fpb help: standard output cannot be written/' full_output ./fpb help
+}
+
+usage() {
+    local command
+    expect 2 '' 'fpb: a command is missing/usage: fpb COMMAND *' ./fpb
+    expect 2 '' "fpb: there is no command \`reprot'/usage: *" ./fpb reprot
+    expect 2 '' "fpb: there is no command \`../fpb'/usage: *" ./fpb ../fpb
+    expect 2 '' "fpb: there is no command \`common'/usage: *" ./fpb common
+    expect 2 '' "fpb: there is no option \`--versoin'/usage: *" ./fpb --versoin
+    expect 2 '' "fpb: --version takes no argument*" ./fpb --version report
+    expect 2 '' "fpb report: there is no option \`--explian'$report_usage" ./fpb report --explian "$one"
+    expect 2 '' "fpb report: one FILE is enough, and \`$shared' is another$report_usage" ./fpb report "$one" "$shared"
+    expect 2 '' "fpb report: FILE is an empty word$report_usage" ./fpb report ""
+    expect 2 '' "fpb help: there is no command \`me'/usage: fpb help \[COMMAND\]/" ./fpb help me
+    for command in report route tree help; do
+        expect 0 "usage: fpb $command*Status*" '' ./fpb help "$command"
+        expect 0 "*  fpb $command *" '' ./fpb help
+        expect 0 "usage: fpb $command*" '' ./fpb "$command" --help
+        expect 0 "usage: fpb $command*" '' ./fpb "$command" -h
+    done
+    expect 0 '*  fpb report *' '' ./fpb --help
+    expect 0 '*  fpb report *' '' ./fpb -h
+}
+
+# that the version stands in every place that has one
+versions() {
+    local version place
+    version=$(./fpb --version)
+    version=${version#fpb }
+    for place in "include/fiswalend.h:#define FPB_VERSION \"$version\"" "docs/CHANGELOG.md:## $version" \
+        "man/fpb.1:fpb $version" "man/fiswalend.3:fiswalend $version"; do
+        if grep -qF "${place#*:}" "${place%%:*}"; then counts ""; else counts "${place%%:*} does not have \`${place#*:}'"; fi
+    done
+    expect 0 "fpb $version/" '' ./fpb --version
+}
+
+targets() {
+    local target
+    for target in 0300 300 0x0300 0X300 0300h 00000000000000000000300H 03:00.0; do
+        expect 0 'end device port 2/path 0 1 2/' '' ./fpb route id host "$target" samples/switch.picture
+    done
+    expect 0 'end device port 3/path 2 3/' '' from samples/switch.picture ./fpb route id 02 04:00.0
+    expect 1 'end unsupported port 2/path 0 1/' '' ./fpb route config host 03:01.0 samples/switch.picture
+    expect 1 'end doubled ports 2 3/path 0 1/' '' ./fpb route addr host 0xE0500000 "$shared"
+    expect 1 'refused 16/' '' ./fpb route id host 10000 samples/switch.picture
+    expect 1 'refused 16/' '' ./fpb route id 99999999999999999999999 0300 samples/switch.picture
+    expect 1 'refused 1/' '' ./fpb route id host 0300 samples/short.picture
+    for target in zz 0x 0x0300h 03:20.0 03:00.8 3:0.0 0000:03:00.0 "" " 300" +300; do
+        expect 2 '' "fpb route: TARGET is written as 0300, 0x0300, 0300h or 03:00.0, and not as \`$target'$route_usage" \
+            ./fpb route id host "$target" samples/switch.picture
+    done
+    expect 2 '' "fpb route: TARGET is written as e0500000*\`03:00.0'$route_usage" ./fpb route addr host 03:00.0 "$one"
+    expect 2 '' "fpb route: TARGET has 64 bits at most*$route_usage" ./fpb route addr host 10000000000000000 "$one"
+    expect 2 '' "fpb route: KIND is id, addr or config, and \`mail' *$route_usage" ./fpb route mail host 0 "$one"
+    expect 2 '' "fpb route: START 255 is no port: from the host is \`host'$route_usage" ./fpb route id 255 0300 "$one"
+    expect 2 '' "fpb route: START is \`host' or *, and \`2x' is neither$route_usage" ./fpb route id 2x 0300 "$one"
+    expect 2 '' "fpb route: KIND, START and TARGET are wanted, and 2 of them are there$route_usage" ./fpb route id host
+}
+
+elsewhere() {
+    ln -s "$root/fpb" "$work/link"
+    cp "$one" "$work/-odd name"
+    expect 0 'ports 1/clear/' '' in_folder "$work" "$root/fpb" report -- "-odd name"
+    expect 0 'ports 1/clear/' '' in_folder "$work" ./link report "$root/$one"
+    expect 0 'ports 1/clear/' '' in_folder / "$work/link" report "$root/$one"
+    expect 0 'ports 1/clear/' '' env PATH="$work:$PATH" link report "$one"
+}
+
+# the samples by words: the line of `report', and one sentence below it
+explained() {
+    expect 1 "$shared_line"'An address has two holders at one place: *port 2 (02:00.0*port 3 (*./' '' ./fpb report --explain "$shared"
+    expect 0 'ports 1/clear/Nothing was found wrong*./' '' ./fpb report "$one" --explain
+    expect 0 '-*00:01.0-\[01\]*' '' ./fpb tree "$one"
+    expect 1 'refused 1/' '' ./fpb tree samples/short.picture
+}
+
+# fresh SECONDS: a copy of the checkout that is not built, and a stand-in for rt that takes so long and notes its calls
+fresh() {
+    rm -rf "$work/copy" "$work/kit"
+    mkdir -p "$work/copy" "$work/kit/bin"
+    cp -R fpb front tools crates.txt crates "$work/copy"
+    cat >"$work/kit/bin/rt" <<RT
+#!/bin/sh
+echo "\$*" >>"$work/kit/calls"
+echo "rt: ids proved (1 s)"
+sleep "$1" &
+echo \$! >"$work/kit/child"
+wait
+[ ! -e "$work/kit/refuses" ] || { echo "rt: \$2 NOT PROVED (exit 1, 1 s)"; exit 1; }
+mkdir -p target/bin
+cp "$root/$built/\$2" target/bin/
+echo "rt: \$2 proved (1 s)"
+RT
+    chmod +x "$work/kit/bin/rt"
+    : >"$work/kit/calls"
+}
+
+# copy ARGS..: fpb of that copy, with the stand-in; without_rt: with nothing on the PATH but what Debian has, and no rt
+copy() { PATH=$work/kit/bin:$PATH RATTLE_HOME=$kit "$work/copy/fpb" "$@"; }
+without_rt() { env PATH="$work/debian" "$@"; }
+
+# calls N: that rt was called so often since the copy was made
+calls() {
+    local n
+    n=$(wc -l <"$work/kit/calls")
+    if [ "$n" -eq "$1" ]; then counts ""; else counts "rt was called $n times and not $1"; fi
+}
+
+first_run() {
+    local not_built='fpb report: report is not built from the sources as they are: proving it and what it rests on, [0-9]* crates; *minutes*/'
+    fresh 0
+    expect 2 '' 'fpb report: report is not built yet, and rt, * is not on the PATH/' without_rt "$work/copy/fpb" report "$one"
+    expect 2 '' 'fpb report: nothing.picture does not exist/' copy report nothing.picture
+    calls 0
+    expect 0 'ports 1/clear/' "${not_built}fpb report: 1 of [0-9]* proved: ids/fpb report: 2 of [0-9]* proved: report/" copy report "$one"
+    calls 1
+    expect 0 'ports 1/clear/' '' copy report "$one"
+    expect 0 'ports 1/clear/' '' without_rt "$work/copy/fpb" report "$one"
+    calls 1
+    echo >>"$work/copy/crates/ids/src/lib.rt"
+    expect 0 'ports 1/clear/' "$not_built*" copy report "$one"
+    calls 2
+    touch "$work/kit/refuses"
+    echo >>"$work/copy/crates.txt"
+    expect 2 '' "$not_built*fpb report: report is not built; *rt: report NOT PROVED*" copy report "$one"
+    expect 2 '' "$not_built*" copy report "$one"
+}
+
+read_only() {
+    fresh 0
+    expect 2 '' 'fpb tree: tree is not built yet, and nothing can be written to *: build it in a copy *' as_nobody env PATH="$work/kit/bin:$PATH" "$work/copy/fpb" tree "$one"
+    copy report "$one" >/dev/null 2>&1
+    [ "$(id -u)" -eq 0 ] || chmod -R a-w "$work/copy"
+    expect 0 'ports 1/clear/' '' as_nobody env PATH="$work/kit/bin:$PATH" "$work/copy/fpb" report "$one"
+    chmod -R u+w "$work/copy"
+    calls 1
+}
+
+two_at_once() {
+    fresh 3
+    copy report "$one" >"$work/first" 2>&1 &
+    while [ ! -s "$work/kit/calls" ]; do sleep 0.1; done
+    expect 0 'ports 1/clear/' 'fpb report: another build runs in this checkout; waiting for it to end/' copy report "$one"
+    wait $!
+    expect 0 '*clear/' '' cat "$work/first"
+    calls 1
+}
+
+# that whatever rt has started ends with fpb, however fpb is ended, and that the next call builds anew
+ended() {
+    local signal try
+    for signal in INT TERM HUP KILL; do
+        fresh 600
+        { PATH=$work/kit/bin:$PATH RATTLE_HOME=$kit timeout -s "$signal" 2 "$work/copy/fpb" report "$one"; } >/dev/null 2>&1
+        for try in 1 2 3 4 5 6 7 8 9 10; do
+            kill -0 "$(cat "$work/kit/child")" 2>/dev/null || break
+            sleep 0.5
+        done
+        if [ "$try" -lt 10 ]; then counts ""; else counts "what rt started goes on after fpb was ended by $signal"; fi
+    done
+    sed -i 's/^sleep .*/sleep 0 \&/' "$work/kit/bin/rt"
+    expect 0 'ports 1/clear/' '*proved: report/' copy report "$one"
+}
+
+installed() {
+    local bin page
+    expect 0 'install.sh PREFIX: *' '' tools/install.sh --help
+    expect 2 '' 'install.sh: one PREFIX is wanted*' tools/install.sh
+    expect 2 '' 'install.sh: one PREFIX is wanted*' tools/install.sh --prefix
+    expect 2 '' 'install.sh: with DESTDIR, PREFIX must begin with /, *' env DESTDIR="$work/stage" tools/install.sh usr
+    expect 2 '' 'install.sh: nothing can be written to /proc/fpb/' tools/install.sh /proc/fpb
+    expect 0 "install.sh: fpb * is installed below $work/stage/usr/" '*' env DESTDIR="$work/stage" tools/install.sh /usr
+    mv "$work/stage/usr" "$work/stage/moved"
+    bin=$work/stage/moved/bin/fpb
+    ln -sf "$bin" "$work/installed"
+    expect 0 'ports 1/clear/' '' without_rt "$bin" report "$one"
+    expect 1 "$shared_line*./" '' without_rt "$bin" report --explain "$shared"
+    expect 0 'end device port 2/path 0 1 2/' '' without_rt "$work/installed" route id host 03:00.0 samples/switch.picture
+    expect 0 '-*' '' in_folder / "$work/installed" tree "$root/$one"
+    expect 0 '*fpb report*' '' without_rt "$bin" help
+    expect 0 "$(./fpb --version)/" '' without_rt "$bin" --version
+    expect 0 "$(./fpb --version | sed 's/fpb/Version:/')/" '' grep '^Version: ' "$work/stage/moved/lib/pkgconfig/fiswalend.pc"
+    for page in man1/fpb.1 man3/fiswalend.3; do expect 0 '.TH *' '' grep -m 1 '^\.TH ' "$work/stage/moved/share/man/$page"; done
+    rm "$work/stage/moved/libexec/fiswalend/tree"
+    expect 2 '' 'fpb tree: the program tree is missing beside this command: install it again/' "$bin" tree "$one"
+}
+
+kit=$(kit_home)
+mkdir "$work/debian"
+for tool in awk basename bash cat cp cut dirname env find flock head mkdir mv readlink rm sed sha256sum sleep sort tail tr uname wc xargs; do
+    ln -s "$(command -v "$tool")" "$work/debian/"
+done
+input_and_output
+usage
+versions
+targets
+elsewhere
+explained
+first_run
+read_only
+two_at_once
+ended
+installed
+echo "$passed passed, $failed failed"
+[ "$failed" -eq 0 ]
