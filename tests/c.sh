@@ -86,6 +86,12 @@ example_words() {
     prints 0 'check: clear/walk: host, crossing nothing/' "$@" samples/switch.picture address host 0xFFFFFFFFffffffff
 }
 
+# man_numbers: the numbers of the man page in words, one to a line
+man_numbers() {
+    awk '/^\.SH / { on = $2 == "NUMBERS" }
+        on && /^\.BR FPB_/ { number = $NF; gsub(/[^0-9]/, "", number); getline; print number, $0 }' man/fiswalend.3
+}
+
 strict="-Wall -Wextra -Wpedantic -Werror"
 languages="c:c99 c:c11 c++:c++11 c++:c++17"
 
@@ -126,6 +132,7 @@ by_host() {
 }
 
 expect "tools/install-lib.sh" tools/install-lib.sh "$work/lib"
+expect "the numbers of man/fiswalend.3" diff <(man_numbers) tests/number-texts
 by_kit
 if command -v cc >/dev/null && command -v c++ >/dev/null; then compiled cc -fsyntax-only -I "$work/lib/include"; fi
 if [ "$(uname -m)" = x86_64 ] && command -v cc >/dev/null; then by_host; fi
