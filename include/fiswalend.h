@@ -1,4 +1,4 @@
-/* fiswalend.h: the judge of FPB registers, for C and C++.
+/* fiswalend.h: the judge of FPB registers, for C and C++: C99 or later, C++11 or later.
  *
  * A picture is a chassis of 1 to 64 PCIe ports as bytes: a header, a record for each port, their vectors; docs/PICTURE.md of the
  * source has its format and the table of numbers. fpb_check says whether it is sound, fpb_walk says where one packet goes in it.
@@ -23,6 +23,12 @@
 #ifdef __cplusplus
 extern "C" {
 #endif
+
+/* The version of this header and of the archive that it comes with, as numbers and as text. */
+#define FPB_VERSION_MAJOR 1
+#define FPB_VERSION_MINOR 1
+#define FPB_VERSION_PATCH 0
+#define FPB_VERSION "1.1.0"
 
 /* The bytes of an answer, and the places in its path. */
 #define FPB_ANSWER_LENGTH 40
@@ -108,6 +114,32 @@ static inline uint64_t fpb_least_target(const uint8_t *answer)
         target = target << 8 | answer[FPB_AT_LEAST_TARGET + i];
     }
     return target;
+}
+
+/* A number in words: no capital at the front, no full stop, never NULL. The text is constant. */
+static inline const char *fpb_number_text(uint32_t number)
+{
+    static const char *const texts[] = {
+        "nothing was found wrong",
+        "the picture is shorter than 72 bytes or longer than 65,536",
+        "the picture's edition is not 1",
+        "the picture has no port, or more than 64",
+        "the total length in the header is not the picture's length",
+        "the records or the vectors do not begin where they must, or the records go past the picture's end",
+        "a port breaks a rule of the tree, by its kind, its parent or as a later child",
+        "a port has more than 15 ports above it in its chain",
+        "a port has a vector enabled that it does not support, a size or granularity that may not be, or wrong low bits in a memory register",
+        "an enabled vector starts where it may not",
+        "a port's vectors do not begin where they must, or the last ones do not end where the picture ends",
+        "an ID has two holders at one place, or a port claims its own ID",
+        "an address has two holders at one place",
+        "a port holds an ID that its parent does not claim",
+        "a port holds an address that its parent does not claim",
+        "a port's own ID is not both claimed and made Type 0 by its parent",
+        "the packet kind, the target, the start or the port asked for is none",
+        "the answer buffer is shorter than 40 bytes",
+    };
+    return number < sizeof texts / sizeof texts[0] ? texts[number] : "not a number of this judge";
 }
 
 #ifdef __cplusplus

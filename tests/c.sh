@@ -24,7 +24,7 @@ expect() {
 
 # calls RUN..: runs the test program, and counts its own tests
 calls() {
-    "$@" samples >"$work/printed" 2>&1
+    "$@" samples tests/number-texts >"$work/printed" 2>&1
     grep -v ' passed, ' "$work/printed"
     if [[ $(tail -n 1 "$work/printed") =~ ^([0-9]+)\ passed,\ ([0-9]+)\ failed$ ]]; then
         passed=$((passed + BASH_REMATCH[1])) failed=$((failed + BASH_REMATCH[2]))
@@ -34,22 +34,62 @@ calls() {
     fi
 }
 
-# prints WANTED COMMAND..: one test, that the command prints these lines, with a slash for each line end
+# prints STATUS WANTED COMMAND..: one test, of the command's status and of all that it prints: a slash for each line end, and
+# what goes to standard error behind a bar
 prints() {
-    local wanted=$1 got
-    shift
-    got=$("$@" 2>&1 | tr '\n' '/')
-    expect "printed $got and not $wanted" [ "$got" = "$wanted" ]
+    local wanted="$1 $2" got
+    shift 2
+    "$@" >"$work/out" 2>"$work/err"
+    got="$? $(cat "$work/out" <(sed 's/^/|/' "$work/err") | tr '\n' '/')"
+    expect "$got and not $wanted: $*" [ "$got" = "$wanted" ]
 }
 
-# example RUN..: the example on pictures that are sound, unsound and unreadable
+# to_full COMMAND..: with nowhere to write to
+to_full() { "$@" >/dev/full; }
+
+# example RUN..: the example on pictures that are sound, unsound and unreadable, from where it cannot read, and to where it cannot write
 example() {
-    prints 'check: clear/walk: device port 2 Function 5, crossing 0 1 2/' "$@" samples/switch.picture config host 0305
-    prints 'check: clear/walk: host, crossing nothing/' "$@" samples/switch.picture address host e0000000
-    prints 'check: number 12 port 2 and port 3 least target e0500000/walk: doubled port 2 and port 3, crossing 0 1/' \
+    local chain='number 7, a port has more than 15 ports above it in its chain; port 16'
+    prints 0 'check: clear/walk: device port 2 Function 5, crossing 0 1 2/' "$@" samples/switch.picture config host 0305
+    prints 0 'check: clear/walk: host, crossing nothing/' "$@" samples/switch.picture address host e0000000
+    prints 0 'check: clear/' "$@" samples/switch.picture
+    prints 1 'check: clear/walk: unsupported request port 2, crossing nothing/' "$@" samples/switch.picture id 2 0x300
+    prints 1 'check: number 12, an address has two holders at one place; port 2 and port 3, least target e0500000/walk: host, crossing nothing/' \
+        "$@" samples/shared-granule.picture address host 0
+    prints 1 'check: number 12, an address has two holders at one place; port 2 and port 3, least target e0500000/walk: doubled port 2 and port 3, crossing 0 1/' \
         "$@" samples/shared-granule.picture address host e0500000
-    prints 'check: number 7 port 16/walk: number 7 port 16/' "$@" samples/chain-of-17.picture id 4 0300
-    prints 'check: number 1/' "$@" samples/short.picture
+    prints 1 "check: $chain/walk: $chain/" "$@" samples/chain-of-17.picture id 4 0300
+    prints 1 'check: number 1, the picture is shorter than 72 bytes or longer than 65,536/' "$@" samples/short.picture
+    prints 2 '|chassis: samples/none cannot be opened/' "$@" samples/none
+    prints 2 '|chassis: samples cannot be read/' "$@" samples
+    prints 2 '|chassis: the output cannot be written/' to_full "$@" samples/switch.picture
+    prints 2 '|usage: chassis PICTURE [id|address|config host|PORT TARGET]/' "$@" samples/switch.picture id host
+}
+
+# example_words RUN..: the example takes whole words that fit, and nothing else
+example_words() {
+    local question='number 16, the packet kind, the target, the start or the port asked for is none' word
+    for word in mail ID '' 'id '; do
+        prints 2 "|chassis: KIND is '$word': id, address or config is wanted/" "$@" samples/switch.picture "$word" host 0300
+    done
+    for word in 2x 0x2 -2 +2 ' 2' '2 ' '' Host 255 4294967296 4294967298 99999999999999999999; do
+        prints 2 "|chassis: START is '$word': host or a device port's number, in decimal digits, is wanted/" \
+            "$@" samples/switch.picture id "$word" 0300
+    done
+    for word in 0300h 3:0 -1 +1 ' 1' '1 ' '' 0x 0x0x1 x1 10000000000000000; do
+        prints 2 "|chassis: TARGET is '$word': a hexadecimal number of at most 64 bits is wanted/" \
+            "$@" samples/switch.picture id host "$word"
+    done
+    prints 1 "check: clear/walk: $question/" "$@" samples/switch.picture id 4294967295 0300
+    prints 1 "check: clear/walk: $question/" "$@" samples/switch.picture id host 10000
+    prints 0 'check: clear/walk: device port 3, crossing 2 3/' "$@" samples/switch.picture id 002 0x0400
+    prints 0 'check: clear/walk: host, crossing nothing/' "$@" samples/switch.picture address host 0xFFFFFFFFffffffff
+}
+
+# man_numbers: the numbers of the man page in words, one to a line
+man_numbers() {
+    awk '/^\.SH / { on = $2 == "NUMBERS" }
+        on && /^\.BR FPB_/ { number = $NF; gsub(/[^0-9]/, "", number); getline; print number, $0 }' man/fiswalend.3
 }
 
 strict="-Wall -Wextra -Wpedantic -Werror"
@@ -74,6 +114,7 @@ by_kit() {
     done
     calls run_x86 "$work/calls"
     example run_x86 "$work/chassis"
+    example_words run_x86 "$work/chassis"
 }
 
 # finds the installed library as a C project does, and links it
@@ -87,9 +128,11 @@ by_host() {
     calls "$work/calls-host"
     expect "chassis.c by the host" cc -std=c99 $strict $words examples/chassis.c $libs -o "$work/chassis-host"
     example "$work/chassis-host"
+    example_words "$work/chassis-host"
 }
 
 expect "tools/install-lib.sh" tools/install-lib.sh "$work/lib"
+expect "the numbers of man/fiswalend.3" diff <(man_numbers) tests/number-texts
 by_kit
 if command -v cc >/dev/null && command -v c++ >/dev/null; then compiled cc -fsyntax-only -I "$work/lib/include"; fi
 if [ "$(uname -m)" = x86_64 ] && command -v cc >/dev/null; then by_host; fi

@@ -5,7 +5,8 @@
 # A difference prints the picture's file, the call and both answers. Last line: N passed, M failed, counting answers and tests.
 set -u
 cd "$(dirname "$0")/.." || exit 2
-. tools/kit.sh
+self=tests/differential.sh
+. tools/build.sh
 seed=${1:-1} pictures=${2:-1000}
 passed=0 failed=0
 work=target/differential

@@ -7,7 +7,8 @@ these cite in turn. Types of src/ are counted apart.
     tools/believed.py --check   whether docs/ARCHITECTURE.md has it so; --write puts it there
     tools/believed.py --unused  what no contract and no demand rests on, and what internal contracts alone rest on
 
-Lines are those of definitions, without comments, imports and empty lines. A name that cannot be found is said, with status 1."""
+Lines are those of definitions, without comments, imports and empty lines. A name that cannot be found is said, with status 1;
+bad usage has status 2."""
 import itertools
 import re
 import sys
@@ -130,8 +131,12 @@ def main(command):
         "--write": lambda reached: check(reached, write=True),
         "--unused": unused,
     }
+    if command in ("-h", "--help"):
+        print(__doc__)
+        sys.exit()
     if command not in commands:
-        sys.exit(__doc__)
+        print(__doc__, file=sys.stderr)
+        sys.exit(2)
     reached = believed()
     commands[command](reached)
     if command not in ("--table", "--unused"):

@@ -2,6 +2,11 @@
 # bench.sh [--no-counts]: the proved calls as native machine code, against the same algorithm in plain Rust (bench/), side by
 # side in one run: times, instruction counts by callgrind, and growth. Prints tables; docs/BENCHMARKS.md has those of one run.
 set -eu
+case "$*" in
+    "" | --no-counts) ;;
+    -h | --help) sed -n '2,/^set /s/^# //p' "$0"; exit ;;
+    *) echo "usage: bench.sh [--no-counts]" >&2; exit 2 ;;
+esac
 cd "$(dirname "$0")/.."
 . tools/kit.sh
 machine=$(uname -m)
@@ -48,7 +53,9 @@ for kind in flat nested chain high low rid wide; do
 done
 pictures+=(tiny samples/one-port.picture)
 
-echo "$(uname -sm), $(nproc) cores, $(sed -n 's/^model name[^:]*: //p' /proc/cpuinfo | head -n 1)$(lscpu 2>/dev/null | sed -n 's/^Model name: *//p'); $(rustc --version)"
+processor=$(LC_ALL=C lscpu 2>/dev/null | sed -n 's/^Model name: *//p' | head -n 1)
+[ -n "$processor" ] || processor=$(sed -n 's/^model name[^:]*: //p' /proc/cpuinfo | head -n 1)
+echo "$(uname -sm), $(nproc) cores, $processor; $(rustc --version)"
 echo
 "$bench" times "${pictures[@]}"
 echo

@@ -203,3 +203,7 @@ def overlooked(definition, reached):
         if re.search(rf"(?<![^\s(){{}};,]){re.escape(name)}(?![^\s(){{}};,.])", definition.antt):
             if imported(definition.module, path) not in {None, *reached}:
                 problem(f"{definition.module.label}: {name}, which {definition.name} cites, was overlooked")
+
+
+if __name__ == "__main__":
+    print(__doc__)

@@ -9,18 +9,45 @@
 From Python: `fill(crate, function, {need: answer}, uses, unfolding, inv, measure)` writes answers into the function's
 Proof.antt, where `@thing` (@args, @pre, @if1, @loop, a callee's name ..) stands for the path into `c` to what bound it;
 `uses` are lines to import. A function in a module is written module/function. The places of a call's `-requires` are not
-always found: count those by hand. Needs that `shorten` has moved have no declaration for `fill` to write into."""
+always found: count those by hand. Needs that `shorten` has moved have no declaration for `fill` to write into.
+
+Status: 0; 2 for bad usage, a crate, function or file that is not there, or an `rt goals` that fails, said on standard error."""
 import glob
 import re
 import subprocess
 import sys
 
 
+def give_up(words):
+    print(f"needs.py: {words}", file=sys.stderr)
+    sys.exit(2)
+
+
+def contents(file):
+    try:
+        return open(file).read()
+    except (OSError, UnicodeDecodeError) as error:
+        give_up(f"{file} cannot be read: {getattr(error, 'strerror', None) or 'it is no text'}")
+
+
+def goals(crate):
+    """Writes what is to be proved of a crate, anew."""
+    try:
+        done = subprocess.run(["rt", "goals", crate], capture_output=True, text=True)
+    except OSError:
+        give_up("rt, the command of the Rattle kit, cannot be run: is it on the PATH?")
+    if done.returncode != 0:
+        said = (done.stderr + done.stdout).strip().splitlines()
+        give_up(f"rt goals {crate} fails with status {done.returncode}: {said[0] if said else 'it says nothing'}")
+
+
 def places(crate, function):
     """The records of a function's places, and the record of each need."""
-    (file,) = glob.glob(f"target/goals/{crate}/*proofs/proofs/{function}/Lts.antt")
+    files = glob.glob(f"target/goals/{glob.escape(crate)}/*proofs/proofs/{glob.escape(function)}/Lts.antt")
+    if len(files) != 1:
+        give_up(f"{crate} has no function {function} with anything to prove; one in a module is written module/function")
     records, needs, record, need = {}, {}, None, None
-    for line in open(file):
+    for line in contents(files[0]).splitlines():
         if found := re.match(r" +pub record (\S+) : Type", line):
             record = found.group(1)
             records[record] = {"before": None, "binds": []}
@@ -52,7 +79,7 @@ def path(crate, function, need, thing):
 
 
 def show(crate, function):
-    subprocess.run(["rt", "goals", crate], capture_output=True)
+    goals(crate)
     records, needs = places(crate, function)
     for need, record in needs.items():
         print(need, *("/".join(binds) for binds in way_back(records, record)), sep="  ")
@@ -60,7 +87,7 @@ def show(crate, function):
 
 def fill(crate, function, answers, uses=(), unfolding=None, inv=None, measure=None):
     file = f"crates/{crate}/proofs/{function}/Proof.antt"
-    text = open(file).read()
+    text = contents(file)
     for name, body in (("Inv-loop", inv), ("μ-loop", measure)):
         if body:
             text = re.sub(rf"(\n{name} [^\n=]*)=[^\n]*(\n    [^\n]*)*", lambda m: f"{m.group(1)}= {body}", text)
@@ -126,18 +153,25 @@ def shortened(text):
 
 def rewrite(change, files=()):
     for file in files or glob.glob("crates/*/proofs/**/Proof.antt", recursive=True):
-        text = open(file).read()
+        text = contents(file)
         if change(text) != text:
             open(file, "w").write(change(text))
             print(file)
 
 
-if __name__ == "__main__":
-    if sys.argv[1:] == ["tidy"]:
+def main(words):
+    if words in (["--help"], ["-h"]):
+        print(__doc__)
+    elif words == ["tidy"]:
         rewrite(tidied)
-    elif sys.argv[1:2] == ["shorten"]:
-        rewrite(shortened, sys.argv[2:])
-    elif len(sys.argv) == 3:
-        show(*sys.argv[1:])
+    elif words[:1] == ["shorten"]:
+        rewrite(shortened, words[1:])
+    elif len(words) == 2:
+        show(*words)
     else:
-        sys.exit(__doc__)
+        print(__doc__, file=sys.stderr)
+        sys.exit(2)
+
+
+if __name__ == "__main__":
+    main(sys.argv[1:])

@@ -2,8 +2,10 @@
 # seeded-bugs.sh [SEED [PICTURES]]: small wrong edits of the second program, one at a time in a copy, each held against the
 # answers of the proved judge to the same batches. Prints a row for each; the status is 0 only where every edit is found.
 set -u
+case "${1:-}" in -h | --help) sed -n '2,/^set /s/^# //p' "$0"; exit ;; esac
 cd "$(dirname "$0")/.." || exit 2
-. tools/kit.sh
+self=seeded-bugs.sh
+. tools/build.sh
 seed=${1:-1} pictures=${2:-400}
 work=$PWD/target/seeded-bugs
 rm -rf "$work"

@@ -1,4 +1,5 @@
-/* calls SAMPLES: calls the archive on the pictures of a folder and compares every byte. Last line: N passed, M failed. */
+/* calls SAMPLES TEXTS: calls the archive on the pictures of a folder and compares every byte; holds the text of each number against
+ * a file, one `K text` to a line. Last line: N passed, M failed. */
 #include <stdio.h>
 #include <string.h>
 
@@ -91,12 +92,16 @@ static const size_t lengths[] = {0, 39, 40, 41, 100};
 
 #define COUNT(of) (sizeof(of) / sizeof((of)[0]))
 
+/* Counts one test, and gives it back. */
+static int counted(int holds)
+{
+    ++*(holds ? &passed : &failed);
+    return holds;
+}
+
 static void expect(int holds, const char *what, const char *sample, size_t length)
 {
-    if (holds) {
-        passed++;
-    } else {
-        failed++;
+    if (!counted(holds)) {
         printf("%s, %s, a buffer of %u bytes\n", sample, what, (unsigned)length);
     }
 }
@@ -194,11 +199,53 @@ static void try_nothing(void)
     expect(fpb_walk(NULL, 0, NULL, 0, 9, 9, 9) == FPB_BUFFER, "walk", "nothing", 0);
 }
 
+/* The file has a line for each number, in order, and no other. */
+static void try_texts(const char *name)
+{
+    char line[256], wanted[256];
+    FILE *file = fopen(name, "r");
+    uint32_t number;
+    if (!counted(file != NULL)) {
+        printf("%s cannot be opened\n", name);
+        return;
+    }
+    for (number = 0; number <= FPB_BUFFER; number++) {
+        snprintf(wanted, sizeof wanted, "%u %s\n", number, fpb_number_text(number));
+        if (!counted(fgets(line, sizeof line, file) != NULL && strcmp(line, wanted) == 0)) {
+            printf("%s has not the line %s", name, wanted);
+        }
+    }
+    if (!counted(fgets(line, sizeof line, file) == NULL)) {
+        printf("%s has a line too many: %s", name, line);
+    }
+    fclose(file);
+}
+
+static void try_unknown_numbers(void)
+{
+    static const uint32_t unknown[] = {FPB_BUFFER + 1, 255, 4294967295U};
+    size_t i;
+    for (i = 0; i < COUNT(unknown); i++) {
+        if (!counted(strcmp(fpb_number_text(unknown[i]), "not a number of this judge") == 0)) {
+            printf("the text of %u is %s\n", unknown[i], fpb_number_text(unknown[i]));
+        }
+    }
+}
+
+static void try_version(void)
+{
+    char version[32];
+    snprintf(version, sizeof version, "%d.%d.%d", FPB_VERSION_MAJOR, FPB_VERSION_MINOR, FPB_VERSION_PATCH);
+    if (!counted(strcmp(version, FPB_VERSION) == 0)) {
+        printf("the version is %s, and by its numbers %s\n", FPB_VERSION, version);
+    }
+}
+
 int main(int argc, char **argv)
 {
     size_t i;
-    if (argc != 2) {
-        fprintf(stderr, "usage: calls SAMPLES\n");
+    if (argc != 3) {
+        fprintf(stderr, "usage: calls SAMPLES TEXTS\n");
         return 2;
     }
     for (i = 0; i < COUNT(checks); i++) {
@@ -211,6 +258,9 @@ int main(int argc, char **argv)
     }
     try_ari(argv[1]);
     try_nothing();
+    try_texts(argv[2]);
+    try_unknown_numbers();
+    try_version();
     printf("%u passed, %u failed\n", passed, failed);
     return failed != 0;
 }

@@ -6,9 +6,13 @@
 extern "C" {
 #endif
 typedef struct shim_file FILE;
+extern FILE *stdout;
 extern FILE *stderr;
 FILE *fopen(const char *name, const char *mode);
 size_t fread(void *into, size_t size, size_t count, FILE *from);
+char *fgets(char *into, int size, FILE *from);
+int ferror(FILE *file);
+int fflush(FILE *file);
 int fclose(FILE *file);
 int printf(const char *format, ...);
 int fprintf(FILE *to, const char *format, ...);

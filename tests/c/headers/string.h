@@ -9,6 +9,7 @@ void *memcpy(void *to, const void *from, size_t count);
 void *memset(void *to, int byte, size_t count);
 int memcmp(const void *a, const void *b, size_t count);
 int strcmp(const char *a, const char *b);
+int strncmp(const char *a, const char *b, size_t count);
 #ifdef __cplusplus
 }
 #endif
