@@ -44,16 +44,22 @@ fn one_supported(capabilities: u32, m: Mechanism) -> u32 {
     }
 }
 
-// One mechanism's registers, the others blank.
-fn one_mechanism(f: Fpb, m: Mechanism) -> Fpb {
-    let mut kept = Fpb {
-        capabilities: one_supported(f.capabilities, m),
+// No mechanism.
+fn blank_fpb() -> Fpb {
+    Fpb {
+        capabilities: 0,
         rid_control_1: 0,
         rid_control_2: 0,
         mem_low_control: 0,
         mem_high_control_1: 0,
         mem_high_control_2: 0,
-    };
+    }
+}
+
+// One mechanism's registers, the others blank.
+fn one_mechanism(f: Fpb, m: Mechanism) -> Fpb {
+    let mut kept = blank_fpb();
+    kept.capabilities = one_supported(f.capabilities, m);
     match m {
         Mechanism::Rid => kept.rid_control_1 = f.rid_control_1,
         Mechanism::Low => kept.mem_low_control = f.mem_low_control,
@@ -68,36 +74,20 @@ fn one_mechanism(f: Fpb, m: Mechanism) -> Fpb {
 // A port with one mechanism alone.
 fn with_mechanism(port: Port, m: Mechanism) -> Port {
     let f = port.fpb;
-    Port {
-        kind: port.kind,
-        parent: port.parent,
-        own_id: port.own_id,
-        device_control_2: port.device_control_2,
-        bridge: blank_bridge(),
-        fpb: one_mechanism(f, m),
-        vectors_at: port.vectors_at,
-    }
+    let bridge = blank_bridge();
+    let fpb = one_mechanism(f, m);
+    let mut kept = port;
+    kept.bridge = bridge;
+    kept.fpb = fpb;
+    kept
 }
 
 // A port without any mechanism.
 fn with_bridge(port: Port) -> Port {
-    let b = port.bridge;
-    Port {
-        kind: port.kind,
-        parent: port.parent,
-        own_id: port.own_id,
-        device_control_2: port.device_control_2,
-        bridge: b,
-        fpb: Fpb {
-            capabilities: 0,
-            rid_control_1: 0,
-            rid_control_2: 0,
-            mem_low_control: 0,
-            mem_high_control_1: 0,
-            mem_high_control_2: 0,
-        },
-        vectors_at: port.vectors_at,
-    }
+    let fpb = blank_fpb();
+    let mut kept = port;
+    kept.fpb = fpb;
+    kept
 }
 
 // Why a mechanism may break number 8: it is not supported, or the codes of its size and granularity.

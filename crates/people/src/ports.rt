@@ -34,7 +34,15 @@ pub fn say_number_of(p: PortNo) {
     say_number(p.0 as u64);
 }
 
-// `, below port 1, 01:00.0` for this port and each above it.
+// `, below port 1, 01:00.0`.
+fn say_one_below(s: &[u8], p: PortNo) {
+    say(b", below ");
+    say_number_of(p);
+    say(b", ");
+    say_id(own_id_at(s, p));
+}
+
+// The same for this port and each above it, of the 64 that there are at most.
 fn say_below(s: &[u8], p: PortNo) {
     let mut q = p;
     let mut left: u8 = 64;
@@ -42,10 +50,7 @@ fn say_below(s: &[u8], p: PortNo) {
         if q.0 == PortNo::NONE.0 {
             return;
         }
-        say(b", below ");
-        say_number_of(q);
-        say(b", ");
-        say_id(own_id_at(s, q));
+        say_one_below(s, q);
         q = parent_at(s, q);
         left -= 1;
     }

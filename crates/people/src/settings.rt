@@ -14,6 +14,7 @@ use registers::Mechanism;
 use registers::enabled;
 use registers::settings;
 use vectors::is_set;
+ghost use Prim.Native.Nat.{_≤_};
 
 // The name of a mechanism's vector.
 pub fn say_vector(m: Mechanism) {
@@ -56,14 +57,19 @@ pub fn say_start_and_granule(f: Fpb, m: Mechanism) {
     say_granule(1 << g.scale, m);
 }
 
+// 1 if so, else 0.
+fn one_if(so: bool) -> u64
+    ensures { λ r. ⌜ r ≤ 1 ⌝ }
+{
+    if so { 1 } else { 0 }
+}
+
 // How many of a vector's entries are set.
 fn count_set(v: &[u8], size: u64) -> u64 {
     let mut count: u64 = 0;
     let mut i: u64 = 0;
     while i < size {
-        if is_set(v, i) {
-            count += 1;
-        }
+        count += one_if(is_set(v, i));
         i += 1;
     }
     count
