@@ -1,5 +1,6 @@
 // Which of a port's registers break numbers 8 and 9: the rule itself is asked of the port with all others blank.
-use crate::settings::say_start_and_granule;
+use crate::settings::say_granule;
+use crate::settings::say_start;
 use crate::settings::say_vector;
 use crate::words::say;
 use crate::words::say_hex;
@@ -93,28 +94,26 @@ fn with_bridge(port: Port) -> Port {
 // Why a mechanism may break number 8: it is not supported, or the codes of its size and granularity.
 fn say_codes(f: Fpb, m: Mechanism) {
     if !supported(f, m) {
-        say(b"enabled but not supported");
+        say(b" is enabled but not supported");
         return;
     }
-    say(b"size code ");
+    say(b" has size code ");
     say_number(size_code(f, m) as u64);
     if enabled(f, m) {
-        say(b", granularity code ");
+        say(b" and granularity code ");
         say_number(granularity_code(f, m) as u64);
     }
 }
 
-// `, by its RID vector (size code 1)`, if this mechanism breaks number 8.
+// `; its RID vector has size code 1`, if this mechanism breaks number 8.
 fn say_if_settings_wrong(port: Port, m: Mechanism) {
     if !settings_wrong(with_mechanism(port, m)) {
         return;
     }
     let f = port.fpb;
-    say(b", by its ");
+    say(b"; its ");
     say_vector(m);
-    say(b" (");
     say_codes(f, m);
-    say(b")");
 }
 
 // A register by its name.
@@ -130,12 +129,10 @@ fn say_if_memory_wrong(port: Port) {
         return;
     }
     let b = port.bridge;
-    say(b", by its memory registers (");
-    say_register(b"Memory Base", b.memory_base);
-    say_register(b", Memory Limit", b.memory_limit);
+    say_register(b"; it has Memory Base", b.memory_base);
+    say_register(b" and Limit", b.memory_limit);
     say_register(b", Prefetchable Memory Base", b.prefetchable_base);
-    say_register(b", Prefetchable Memory Limit", b.prefetchable_limit);
-    say(b")");
+    say_register(b" and Limit", b.prefetchable_limit);
 }
 
 // What in a port breaks number 8.
@@ -147,20 +144,31 @@ pub fn say_wrong_settings(s: &[u8], p: PortNo) {
     say_if_memory_wrong(port);
 }
 
-// `, by its MEM Low vector (from 00800000 by 16 MiB)`, if this mechanism breaks number 9.
+// That a port has ARI, which the start of a RID vector depends on.
+fn say_ari(port: Port, m: Mechanism) {
+    match m {
+        Mechanism::Rid => {
+            if with_ari(port) {
+                say(b", in a port with ARI");
+            }
+        }
+        _ => {}
+    }
+}
+
+// `; its MEM Low vector starts at 00800000 and has entries of 16 MiB`, if this mechanism breaks number 9.
 fn say_if_start_wrong(port: Port, m: Mechanism) {
     if !start_wrong(with_mechanism(port, m)) {
         return;
     }
     let f = port.fpb;
-    say(b", by its ");
+    say(b"; its ");
     say_vector(m);
-    say(b" (");
-    say_start_and_granule(f, m);
-    if with_ari(port) {
-        say(b", with ARI");
-    }
-    say(b")");
+    say(b" starts at ");
+    say_start(f, m);
+    say(b" and has entries of ");
+    say_granule(f, m);
+    say_ari(port, m);
 }
 
 // Which vectors of a port break number 9.

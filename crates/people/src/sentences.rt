@@ -81,8 +81,10 @@ fn say_lost(s: &[u8], p: PortNo) {
     say(b", and ");
     say_number_of(parent);
     match claims::conversion(s, parent, Target::Id(own_id_at(s, p))) {
-        Conversion::Type1 => say(b" passes a configuration request for it on as Type 1"),
-        Conversion::Unsupported => say(b" answers a configuration request for it as unsupported"),
+        Conversion::Type1 => say(b" passes configuration requests for it on as Type 1"),
+        Conversion::Unsupported => say(
+            b" answers configuration requests for it with Unsupported Request",
+        ),
         _ => say(b" does not claim it"),
     }
 }

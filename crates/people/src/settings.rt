@@ -25,8 +25,9 @@ pub fn say_vector(m: Mechanism) {
     }
 }
 
-// Where a vector starts.
-fn say_start(start: u64, m: Mechanism) {
+// Where a vector starts: `03:00.0`, `e0000000`.
+pub fn say_start(f: Fpb, m: Mechanism) {
+    let start = settings(f, m).start;
     match m {
         Mechanism::Rid => say_id(Rid((start % 65536) as u16)),
         Mechanism::Low => say_hex(start, 8),
@@ -34,8 +35,9 @@ fn say_start(start: u64, m: Mechanism) {
     }
 }
 
-// What an entry of a vector stands for.
-fn say_granule(granule: u64, m: Mechanism) {
+// What an entry of a vector stands for: `8 IDs`, `1 MiB`.
+pub fn say_granule(f: Fpb, m: Mechanism) {
+    let granule: u64 = 1 << settings(f, m).scale;
     match m {
         Mechanism::Rid => {
             say_number(granule);
@@ -46,15 +48,6 @@ fn say_granule(granule: u64, m: Mechanism) {
             say(b" MiB");
         }
     }
-}
-
-// `from 03:00.0 by 8 IDs`, `from e0000000 by 1 MiB`.
-pub fn say_start_and_granule(f: Fpb, m: Mechanism) {
-    let g = settings(f, m);
-    say(b"from ");
-    say_start(g.start, m);
-    say(b" by ");
-    say_granule(1 << g.scale, m);
 }
 
 // 1 if so, else 0.
@@ -80,15 +73,17 @@ pub fn say_vector_in_use(s: &[u8], p: PortNo, f: Fpb, m: Mechanism) {
     if !enabled(f, m) {
         return;
     }
-    let g = settings(f, m);
+    let size = settings(f, m).size;
     say(b"; ");
     say_vector(m);
     say(b" ");
-    say_number(count_set(picture::vector(s, p, m), g.size));
+    say_number(count_set(picture::vector(s, p, m), size));
     say(b" of ");
-    say_number(g.size);
-    say(b" set, ");
-    say_start_and_granule(f, m);
+    say_number(size);
+    say(b" set, from ");
+    say_start(f, m);
+    say(b" by ");
+    say_granule(f, m);
 }
 
 // `; memory e0000000-efffffff`, unless the base is above the limit.
