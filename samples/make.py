@@ -91,6 +91,15 @@ SWITCH = [
 SAMPLES = {
     'one-port': ONE_PORT,
     'switch': picture(SWITCH),
+    # every kind of decoder in use, and a root port between the ports of a switch
+    'every-decoder': picture([
+        Port(ROOT, 255, 0x0008, buses=(1, 4), memory=(0xE000, 0xEFF0), prefetchable=(0x0001, 0xFFF1), upper=(1, 1)),
+        Port(ROOT, 255, 0x0010, command=0, memory=(0xE000, 0xEFF0)),
+        Port(UPSTREAM, 0, 0x0100, buses=(2, 4), memory=(0xE000, 0xEFF0), prefetchable=(0x0001, 0xFFF1), upper=(1, 1)),
+        Port(DOWNSTREAM, 2, 0x0200, buses=(3, 3)).vector(LOW, 0, 0, 0xE00, [1, 5]),
+        Port(ROOT, 255, 0x0018, buses=(16, 16), prefetchable=(0xD000, 0xD000)).vector(LOW, 1, 0, 0xE00, [1], enabled=False),
+        Port(DOWNSTREAM, 2, 0x0208, buses=(4, 4), device_control_2=ARI).vector(RID, 0, 0, 0x80, [0, 31]).vector(HIGH, 1, 0, 16, [0, 1, 7]),
+    ]),
     'chain-of-16': picture(chain(16)),
     'chain-of-17': picture(chain(17)),
     # the longest way there is: up from the device port 14, and down to the upstream port 30 over 31 ports

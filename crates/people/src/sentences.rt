@@ -1,0 +1,166 @@
+// The sentence of a number: its fixed text, then the particulars of the picture.
+use crate::causes::say_wrong_settings;
+use crate::causes::say_wrong_starts;
+use crate::fixed::say_fixed;
+use crate::ports::say_number_of;
+use crate::ports::say_port;
+use crate::ports::say_tree_breaker;
+use crate::words::say;
+use crate::words::say_bytes;
+use crate::words::say_number;
+use crate::words::say_target;
+use chassis::Conversion;
+use chassis::Holders;
+use chassis::Shown;
+use ids::PortNo;
+use ids::Target;
+use lent::u16_at;
+use lent::u32_at;
+use registers::own_id_at;
+use registers::parent_at;
+use registers::port_at;
+
+// Number 1: the input is read only so far that a longer one shows.
+fn say_length(length: usize) {
+    say(b": it has ");
+    if 65536 < length {
+        say(b"more than 65,536");
+        return;
+    }
+    say_bytes(length);
+}
+
+// Number 3.
+fn say_count(count: u16) {
+    say(b": it has ");
+    if count == 0 {
+        say(b"none");
+        return;
+    }
+    say_number(count as u64);
+}
+
+// The particulars of numbers 0 to 5; number 5 has none.
+fn say_of_picture(s: &[u8], number: u8) {
+    match number {
+        0 => say(
+            b": no ID or address has two holders at one place, and no port holds what its parent does not claim",
+        ),
+        1 => say_length(s.len()),
+        2 => {
+            say(b": it is ");
+            say_number(u16_at(s, 0) as u64);
+        }
+        3 => say_count(u16_at(s, 2)),
+        4 => {
+            say(b": the header says ");
+            say_number(u32_at(s, 4) as u64);
+            say(b", and the picture has ");
+            say_bytes(s.len());
+        }
+        _ => {}
+    }
+}
+
+// Number 10, which names no port if it is about the end of the last vectors.
+fn say_misplaced(s: &[u8], p: PortNo) {
+    if p.0 == PortNo::NONE.0 {
+        say(b"the last ones do not, and the picture has ");
+        say_bytes(s.len());
+        return;
+    }
+    say(b"those of ");
+    say_port(s, p);
+    say(b" begin at byte ");
+    say_number(port_at(s, p).vectors_at as u64);
+}
+
+// What the parent makes of the own ID of a port that it loses.
+fn say_lost(s: &[u8], p: PortNo) {
+    let parent = parent_at(s, p);
+    say(b", and ");
+    say_number_of(parent);
+    match claims::conversion(s, parent, Target::Id(own_id_at(s, p))) {
+        Conversion::Type1 => say(b" passes configuration requests for it on as Type 1"),
+        Conversion::Unsupported => say(
+            b" answers configuration requests for it with Unsupported Request",
+        ),
+        _ => say(b" does not claim it"),
+    }
+}
+
+// The particulars of a number that names one port and no target.
+fn say_of_port(s: &[u8], number: u8, p: PortNo) {
+    if number == 6 {
+        say_tree_breaker(s, p);
+        return;
+    }
+    if number == 10 {
+        say_misplaced(s, p);
+        return;
+    }
+    say_port(s, p);
+    match number {
+        8 => say_wrong_settings(s, p),
+        9 => say_wrong_starts(s, p),
+        15 => say_lost(s, p),
+        _ => {}
+    }
+}
+
+// Numbers 13 and 14.
+fn say_stray(s: &[u8], t: Target, p: PortNo) {
+    say_target(t);
+    say(b" is held by ");
+    say_port(s, p);
+    say(b", and ");
+    say_number_of(parent_at(s, p));
+    say(b" does not claim it");
+}
+
+// Numbers 11 and 12; a port that claims its own ID is a pair with itself.
+fn say_pair(s: &[u8], t: Target, p: PortNo, q: PortNo) {
+    if p.0 == q.0 {
+        say_port(s, p);
+        say(b" claims its own ");
+        say_target(t);
+        return;
+    }
+    say_target(t);
+    say(b" is held by ");
+    say_port(s, p);
+    say(b" and by ");
+    say_port(s, q);
+}
+
+// The particulars of a number that names ports, with the target where it shows one.
+fn say_named(s: &[u8], number: u8, shown: Shown, ports: Holders) {
+    match ports {
+        Holders::Nobody => say_of_picture(s, number),
+        Holders::Only(p) => {
+            say(b": ");
+            match shown {
+                Shown::NoTarget => say_of_port(s, number, p),
+                Shown::Least(t) => say_stray(s, t, p),
+            }
+        }
+        Holders::Both(p, q) => {
+            say(b": ");
+            match shown {
+                Shown::NoTarget => {}
+                Shown::Least(t) => say_pair(s, t, p, q),
+            }
+        }
+    }
+}
+
+// The sentence for what the check says of a picture, on a line of its own.
+pub fn print_sentence(s: &[u8]) {
+    let f = judge::check_finding(judge::check(s));
+    let number = f.number;
+    let target = f.target;
+    let ports = f.ports;
+    say_fixed(number);
+    say_named(s, number, target, ports);
+    say(b".\n");
+}
