@@ -47,16 +47,16 @@ prints() {
 # to_full COMMAND..: with nowhere to write to
 to_full() { "$@" >/dev/full; }
 
-# example RUN..: the example on pictures that are sound, unsound and unreadable, from where it cannot read, and to where it cannot write
+# example RUN..: the example on pictures that are sound, unsound and unreadable, and where it cannot read or write
 example() {
     local chain='number 7, a port has more than 15 ports above it in its chain; port 16'
+    local shared='number 12, an address has two holders at one place; port 2 and port 3, least target e0500000'
     prints 0 'check: clear/walk: device port 2 Function 5, crossing 0 1 2/' "$@" samples/switch.picture config host 0305
     prints 0 'check: clear/walk: host, crossing nothing/' "$@" samples/switch.picture address host e0000000
     prints 0 'check: clear/' "$@" samples/switch.picture
     prints 1 'check: clear/walk: unsupported request port 2, crossing nothing/' "$@" samples/switch.picture id 2 0x300
-    prints 1 'check: number 12, an address has two holders at one place; port 2 and port 3, least target e0500000/walk: host, crossing nothing/' \
-        "$@" samples/shared-granule.picture address host 0
-    prints 1 'check: number 12, an address has two holders at one place; port 2 and port 3, least target e0500000/walk: doubled port 2 and port 3, crossing 0 1/' \
+    prints 1 "check: $shared/walk: host, crossing nothing/" "$@" samples/shared-granule.picture address host 0
+    prints 1 "check: $shared/walk: doubled port 2 and port 3, crossing 0 1/" \
         "$@" samples/shared-granule.picture address host e0500000
     prints 1 "check: $chain/walk: $chain/" "$@" samples/chain-of-17.picture id 4 0300
     prints 1 'check: number 1, the picture is shorter than 72 bytes or longer than 65,536/' "$@" samples/short.picture
