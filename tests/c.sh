@@ -131,7 +131,7 @@ by_host() {
     example_words "$work/chassis-host"
 }
 
-expect "tools/install-lib.sh" tools/install-lib.sh "$work/lib"
+expect "tools/install.sh" tools/install.sh "$work/lib"
 expect "the numbers of man/fiswalend.3" diff <(man_numbers) tests/number-texts
 by_kit
 if command -v cc >/dev/null && command -v c++ >/dev/null; then compiled cc -fsyntax-only -I "$work/lib/include"; fi
