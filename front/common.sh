@@ -85,9 +85,11 @@ take_file() {
     if [ "$input" = - ]; then
         input=/dev/fd/0 input_name="standard input"
         [ -e "$input" ] || unreadable "is closed"
+        [ ! -t 0 ] || say "reading a picture from the terminal"
         exec 3<&0
     else
         [ -e "$input" ] || unreadable "does not exist"
+        [ -r "$input" ] || unreadable "may not be read: permission denied"
         { exec 3<"$input"; } 2>/dev/null || unreadable "cannot be opened"
     fi
     [ ! -d "$input" ] || unreadable "is a directory, and not a picture"

@@ -136,7 +136,7 @@ static inline const char *fpb_number_text(uint32_t number)
         "a port holds an ID that its parent does not claim",
         "a port holds an address that its parent does not claim",
         "a port's own ID is not both claimed and made Type 0 by its parent",
-        "the packet kind, the target, the start or the port asked for is none",
+        "a packet kind, an ID, a start or a port was asked for that there is not",
         "the answer buffer is shorter than 40 bytes",
     };
     return number < sizeof texts / sizeof texts[0] ? texts[number] : "not a number of this judge";

@@ -68,7 +68,7 @@ example() {
 
 # example_words RUN..: the example takes whole words that fit, and nothing else
 example_words() {
-    local question='number 16, the packet kind, the target, the start or the port asked for is none' word
+    local question='number 16, a packet kind, an ID, a start or a port was asked for that there is not' word
     for word in mail ID '' 'id '; do
         prints 2 "|chassis: KIND is '$word': id, address or config is wanted/" "$@" samples/switch.picture "$word" host 0300
     done
@@ -92,24 +92,24 @@ man_numbers() {
         on && /^\.BR FPB_/ { number = $NF; gsub(/[^0-9]/, "", number); getline; print number, $0 }' man/fiswalend.3
 }
 
-strict="-Wall -Wextra -Wpedantic -Werror"
+strict=(-Wall -Wextra -Wpedantic -Werror)
 languages="c:c99 c:c11 c++:c++11 c++:c++17"
 
 # compiled COMMAND..: that the header by itself and the test program compile as each language
 compiled() {
     local language words
     for language in $languages; do
-        words="-x ${language%%:*} -std=${language#*:} $strict"
-        expect "header.c as ${language#*:}, by $1" "$@" $words tests/c/header.c
-        expect "calls.c as ${language#*:}, by $1" "$@" $words tests/c/calls.c
+        words=(-x "${language%%:*}" "-std=${language#*:}" "${strict[@]}")
+        expect "header.c as ${language#*:}, by $1" "$@" "${words[@]}" tests/c/header.c
+        expect "calls.c as ${language#*:}, by $1" "$@" "${words[@]}" tests/c/calls.c
     done
 }
 
 by_kit() {
-    local words="-isystem tests/c/headers -I $work/lib/include" program
-    compiled kit_cc "$work/object.o" $words
+    local words=(-isystem tests/c/headers -I "$work/lib/include") program
+    compiled kit_cc "$work/object.o" "${words[@]}"
     for program in tests/c/calls.c examples/chassis.c; do
-        expect "$program by the kit's clang" kit_cc "$work/object.o" -std=c99 $strict $words "$program"
+        expect "$program by the kit's clang" kit_cc "$work/object.o" -std=c99 "${strict[@]}" "${words[@]}" "$program"
         expect "$program by the kit's linker" kit_link "$work/$(basename "$program" .c)" "$work/object.o" "$work/lib/lib/libfiswalend.a"
     done
     calls run_x86 "$work/calls"
@@ -119,14 +119,15 @@ by_kit() {
 
 # finds the installed library as a C project does, and links it
 by_host() {
-    local words="-I $work/lib/include" libs="-L $work/lib/lib -lfiswalend"
+    local words=(-I "$work/lib/include") libs=(-L "$work/lib/lib" -lfiswalend)
     if command -v pkg-config >/dev/null; then
         export PKG_CONFIG_PATH=$work/lib/lib/pkgconfig
-        words=$(pkg-config --cflags fiswalend) libs=$(pkg-config --libs fiswalend)
+        read -ra words < <(pkg-config --cflags fiswalend)
+        read -ra libs < <(pkg-config --libs fiswalend)
     fi
-    expect "calls.c by the host" cc -std=c99 $strict $words tests/c/calls.c $libs -o "$work/calls-host"
+    expect "calls.c by the host" cc -std=c99 "${strict[@]}" "${words[@]}" tests/c/calls.c "${libs[@]}" -o "$work/calls-host"
     calls "$work/calls-host"
-    expect "chassis.c by the host" cc -std=c99 $strict $words examples/chassis.c $libs -o "$work/chassis-host"
+    expect "chassis.c by the host" cc -std=c99 "${strict[@]}" "${words[@]}" examples/chassis.c "${libs[@]}" -o "$work/chassis-host"
     example "$work/chassis-host"
     example_words "$work/chassis-host"
 }

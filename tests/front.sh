@@ -2,6 +2,7 @@
 # The command fpb as its users meet it: every status and message, input and output that fail, other folders and links, the first
 # run (by a stand-in for rt, so that no test waits for a proof), and the installed command. Last line: N passed, M failed.
 set -u
+umask 022
 cd "$(dirname "$0")/.." || exit 2
 root=$PWD
 self=tests/front.sh
@@ -34,8 +35,11 @@ in_folder() { local folder=$1; shift; (cd "$folder" && "$@"); }
 closed_input() { "$@" <&-; }
 closed_output() { "$@" >&-; }
 full_output() { "$@" >/dev/full; }
+# as_nobody COMMAND..: in the work folder, as somebody who may not write there
 as_nobody() {
-    if [ "$(id -u)" -eq 0 ]; then setpriv --reuid 65534 --regid 65534 --clear-groups "$@"; else "$@"; fi
+    local somebody=(setpriv --reuid 65534 --regid 65534 --clear-groups)
+    [ "$(id -u)" -eq 0 ] || somebody=()
+    in_folder "$work" env PATH="$work/kit/bin:$PATH" ${somebody[@]+"${somebody[@]}"} "$@"
 }
 
 one=samples/one-port.picture shared=samples/shared-granule.picture
@@ -138,6 +142,22 @@ explained() {
     expect 1 'refused 1/' '' ./fpb tree samples/short.picture
 }
 
+# the examples of the man page: each command prints what stands below it, white space aside
+man_examples() {
+    local line asked='' below='' got
+    while IFS= read -r line; do
+        if [[ $line == '$ fpb '* || $line == end ]]; then
+            if [ -n "$asked" ]; then
+                got=$(eval "${asked/#fpb/./fpb}" | tr -s '[:space:]' ' ')
+                if [ "${got% }" = "${below# }" ]; then counts ""; else counts "fpb.1: $asked prints $got and not$below"; fi
+            fi
+            asked=${line#??} below=''
+        else
+            below="$below $(tr -s '[:space:]' ' ' <<<"$line" | sed 's/^ //; s/ $//')"
+        fi
+    done < <(sed -n '/^\.EX/,/^\.EE/{ /^\./d; s/\\f[BP]//g; s/\\-/-/g; s/\\e/\\/g; p }' man/fpb.1 | sed '/^if fpb/,$d'; echo end)
+}
+
 # fresh SECONDS: a copy of the checkout that is not built, and a stand-in for rt that takes so long and notes its calls
 fresh() {
     rm -rf "$work/copy" "$work/kit"
@@ -192,11 +212,17 @@ first_run() {
 
 read_only() {
     fresh 0
-    expect 2 '' 'fpb tree: tree is not built yet, and nothing can be written to *: build it in a copy *' as_nobody env PATH="$work/kit/bin:$PATH" "$work/copy/fpb" tree "$one"
+    cp "$one" "$work/one.picture"
+    [ "$(id -u)" -eq 0 ] || chmod -R a-w "$work/copy"
+    expect 2 '' 'fpb tree: tree is not built yet, and nothing can be written to *: build it in a copy *' \
+        as_nobody copy/fpb tree one.picture
+    chmod -R u+w "$work/copy"
     copy report "$one" >/dev/null 2>&1
     [ "$(id -u)" -eq 0 ] || chmod -R a-w "$work/copy"
-    expect 0 'ports 1/clear/' '' as_nobody env PATH="$work/kit/bin:$PATH" "$work/copy/fpb" report "$one"
+    expect 0 'ports 1/clear/' '' as_nobody copy/fpb report one.picture
     chmod -R u+w "$work/copy"
+    chmod 0 "$work/one.picture"
+    expect 2 '' 'fpb report: one.picture may not be read: permission denied/' as_nobody copy/fpb report one.picture
     calls 1
 }
 
@@ -244,6 +270,10 @@ installed() {
     expect 0 '*fpb report*' '' without_rt "$bin" help
     expect 0 "$(./fpb --version)/" '' without_rt "$bin" --version
     expect 0 "$(./fpb --version | sed 's/fpb/Version:/')/" '' grep '^Version: ' "$work/stage/moved/lib/pkgconfig/fiswalend.pc"
+    if command -v pkg-config >/dev/null; then
+        expect 0 "-I*/moved/lib/pkgconfig/../../include -L*/moved/lib/pkgconfig/../../lib -lfiswalend*" '' \
+            env PKG_CONFIG_PATH="$work/stage/moved/lib/pkgconfig" pkg-config --cflags --libs fiswalend
+    fi
     for page in man1/fpb.1 man3/fiswalend.3; do expect 0 '.TH *' '' grep -m 1 '^\.TH ' "$work/stage/moved/share/man/$page"; done
     rm "$work/stage/moved/libexec/fiswalend/tree"
     expect 2 '' 'fpb tree: the program tree is missing beside this command: install it again/' "$bin" tree "$one"
@@ -260,6 +290,7 @@ versions
 targets
 elsewhere
 explained
+man_examples
 first_run
 read_only
 two_at_once

@@ -6,6 +6,7 @@
 #   share/man                    fpb(1) and fiswalend(3)
 # Installed files may be moved together. Status: 0 installed; 1 not proved; 2 bad usage, or a folder that cannot be written to.
 set -eu
+umask 022
 if [ "${1:-}" = -h ] || [ "${1:-}" = --help ]; then
     sed -n '2,/^[^#]/s/^# \{0,1\}//p' "$0"
     exit 0
