@@ -54,6 +54,9 @@ input_and_output() {
     expect 1 "$shared_line" '' ./fpb report "$shared"
     expect 1 'refused 1/' '' from /dev/null ./fpb report
     expect 1 'refused 1/' '' ./fpb report /dev/zero
+    if command -v script >/dev/null; then
+        expect 1 'fpb report: reading a picture from the terminal*refused 1*' '' from /dev/null script -qec './fpb report' /dev/null
+    fi
     expect 2 '' 'fpb report: samples is a directory, and not a picture/' ./fpb report samples
     expect 2 '' 'fpb tree: standard input is a directory, and not a picture/' from samples ./fpb tree
     expect 2 '' 'fpb report: standard input is closed/' closed_input ./fpb report
@@ -166,7 +169,9 @@ fresh() {
     cat >"$work/kit/bin/rt" <<RT
 #!/bin/sh
 echo "\$*" >>"$work/kit/calls"
-echo "rt: ids proved (1 s)"
+mkdir -p target/log
+echo "rt: ids proved (1 s)" | tee target/log/ids.out
+: >"target/log/\$2.out"
 sleep "$1" &
 echo \$! >"$work/kit/child"
 wait
@@ -227,12 +232,12 @@ read_only() {
 }
 
 two_at_once() {
-    fresh 3
+    fresh 12
     copy report "$one" >"$work/first" 2>&1 &
     while [ ! -s "$work/kit/calls" ]; do sleep 0.1; done
     expect 0 'ports 1/clear/' 'fpb report: another build runs in this checkout; waiting for it to end/' copy report "$one"
     wait $!
-    expect 0 '*clear/' '' cat "$work/first"
+    expect 0 '*/fpb report: 1 of [0-9]* proved, being proved: report/*/ports 1/clear/' '' cat "$work/first"
     calls 1
 }
 
@@ -275,6 +280,8 @@ installed() {
             env PKG_CONFIG_PATH="$work/stage/moved/lib/pkgconfig" pkg-config --cflags --libs fiswalend
     fi
     for page in man1/fpb.1 man3/fiswalend.3; do expect 0 '.TH *' '' grep -m 1 '^\.TH ' "$work/stage/moved/share/man/$page"; done
+    echo nonsense >"$work/stage/moved/libexec/fiswalend/tree"
+    expect 2 '' '*fpb tree: the program tree did not answer/' "$bin" tree "$one"
     rm "$work/stage/moved/libexec/fiswalend/tree"
     expect 2 '' 'fpb tree: the program tree is missing beside this command: install it again/' "$bin" tree "$one"
 }

@@ -70,19 +70,33 @@ attended() {
     return "$status"
 }
 
-# progress COUNT: passes on what rt prints, and says on standard error which crate is proved, n of COUNT
+# under_way PROVED: the crates that rt has begun with since this build began, but for those in the list
+under_way() {
+    local file name
+    for file in target/log/*.out; do
+        name=$(basename "$file" .out)
+        if ! [ "$file" -ot "$built/began" ] && [[ $1 != *" $name "* ]]; then printf ' %s' "$name"; fi
+    done
+}
+
+# progress COUNT: passes on what rt prints; says on standard error which crate is proved, n of COUNT, and every 10 seconds
+# without such news what is being proved
 progress() {
-    local n=0 line
-    while IFS= read -r line; do
-        printf '%s\n' "$line"
-        case $line in
-        'rt: '*' proved (unchanged'*) n=$((n + 1)) ;;
-        'rt: '*' proved ('*)
-            n=$((n + 1))
-            line=${line#rt: }
-            echo "$self: $n of $1 proved: ${line%% *}" >&2
-            ;;
-        esac
+    local count=$1 n=0 proved=' ' line part='' name
+    while :; do
+        if IFS= read -r -t 10 line; then
+            line=$part$line part=''
+            printf '%s\n' "$line"
+            [[ $line =~ ^rt:\ ([a-z]+)\ proved\ \((unchanged)? ]] || continue
+            name=${BASH_REMATCH[1]} n=$((n + 1))
+            proved="$proved$name "
+            [ -n "${BASH_REMATCH[2]}" ] || echo "$self: $n of $count proved: $name" >&2
+        elif [ $? -gt 128 ]; then
+            part=$part$line
+            echo "$self: $n of $count proved, being proved:$(under_way "$proved")" >&2
+        else
+            return 0
+        fi
     done
 }
 
@@ -91,6 +105,7 @@ proving() {
     local count
     count=$(needed_by "$1")
     shift
+    : >"$built/began"
     set -o pipefail
     "$@" 2>&1 | progress "$count" >"$built/log"
 }
