@@ -196,9 +196,9 @@ calls() {
 }
 
 first_run() {
-    local not_built='fpb report: report is not built from the sources as they are: proving it and what it rests on, [0-9]* crates; *minutes*/'
+    local not_built='fpb report: report is not built yet from these sources: proving it and what it rests on, [0-9]* crates; *minutes*/'
     fresh 0
-    expect 2 '' 'fpb report: report is not built yet, and rt, * is not on the PATH/' without_rt "$work/copy/fpb" report "$one"
+    expect 2 '' 'fpb report: report is not built yet from these sources, and rt, * is not on the PATH/' without_rt "$work/copy/fpb" report "$one"
     expect 2 '' 'fpb report: nothing.picture does not exist/' copy report nothing.picture
     calls 0
     expect 0 'ports 1/clear/' "${not_built}fpb report: 1 of [0-9]* proved: ids/fpb report: 2 of [0-9]* proved: report/" copy report "$one"
@@ -219,7 +219,7 @@ read_only() {
     fresh 0
     cp "$one" "$work/one.picture"
     [ "$(id -u)" -eq 0 ] || chmod -R a-w "$work/copy"
-    expect 2 '' 'fpb tree: tree is not built yet, and nothing can be written to *: build it in a copy *' \
+    expect 2 '' 'fpb tree: tree is not built yet from these sources, and nothing can be written to *: build it in a copy *' \
         as_nobody copy/fpb tree one.picture
     chmod -R u+w "$work/copy"
     copy report "$one" >/dev/null 2>&1
@@ -284,6 +284,8 @@ installed() {
     expect 2 '' '*fpb tree: the program tree did not answer/' "$bin" tree "$one"
     rm "$work/stage/moved/libexec/fiswalend/tree"
     expect 2 '' 'fpb tree: the program tree is missing beside this command: install it again/' "$bin" tree "$one"
+    rm -r "$work/stage/moved/libexec"
+    expect 2 '' "fpb: what it runs is missing in *libexec/fiswalend: install it again/" "$bin" tree "$one"
 }
 
 kit=$(kit_home)

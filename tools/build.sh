@@ -121,9 +121,9 @@ one_at_a_time() {
 # can_build WHAT: whether the kit and a folder to write to are there; says what is missing
 can_build() {
     if ! command -v rt >/dev/null; then
-        echo "$self: $1 is not built yet, and rt, the command of the Rattle kit that builds it, is not on the PATH" >&2
+        echo "$self: $1 is not built yet from these sources, and rt, the command of the Rattle kit that builds it, is not on the PATH" >&2
     elif ! mkdir -p "$built" 2>/dev/null || ! [ -w "$built" ]; then
-        echo "$self: $1 is not built yet, and nothing can be written to $PWD: build it in a copy that can be written to" >&2
+        echo "$self: $1 is not built yet from these sources, and nothing can be written to $PWD: build it in a copy that can be" >&2
     else
         return 0
     fi
@@ -133,7 +133,7 @@ can_build() {
 # make_one PROGRAM|ARCHIVE.a: has rt prove and compile it, and puts it where built things stand
 make_one() {
     local crate=${1%.a} from=target/bin/$1
-    echo "$self: $1 is not built from the sources as they are: proving it and what it rests on, $(needed_by "$crate") crates;" \
+    echo "$self: $1 is not built yet from these sources: proving it and what it rests on, $(needed_by "$crate") crates;" \
         "the first time this takes $build_time" >&2
     attended proving "$crate" rt check "$crate" || return 1
     if [ "$1" != "$crate" ]; then
