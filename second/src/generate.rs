@@ -5,11 +5,13 @@ use crate::breaking::{break_once, shake};
 use crate::cases::all_cases;
 use crate::draft::Draft;
 use crate::judge::Judge;
-use crate::picture::{Picture, Port, Refusal, Target, Vector, FOUR_GIB};
+use crate::picture::{read, Picture, Port, Refusal, Target, Vector, FOUR_GIB};
 use crate::random::Random;
 use crate::samples::{sample, SAMPLE_NAMES};
 use crate::sound::{fill, Taste};
-use crate::spoil::{chain_at_the_edge, reading_edges, spoil};
+use crate::spoil::{
+    chain_at_the_edge, reading_edges, scatter_own_ids, scramble_settings, scramble_starts, spoil,
+};
 use crate::topology::{grow, port_count, ALL_FORMS};
 use crate::wild::{add_noise, make_memory_wild, wild};
 
@@ -26,11 +28,51 @@ const LONG_IDS: [u64; 4] = [0x1_0000, 0x1_0308, 0x1_0000_0000, u64::MAX];
 pub fn generate(seed: u64, count: u64) -> Vec<u8> {
     let mut batch = Vec::new();
     for index in 0..count {
-        let random = &mut Random::new(seed.wrapping_mul(0x1_0000_0001).wrapping_add(index));
+        let random = &mut random_of(seed, index);
         let picture = random_picture(random);
         write_with_calls(random, picture, &mut batch);
     }
     batch
+}
+
+/// The random numbers of one picture of a seed.
+fn random_of(seed: u64, index: u64) -> Random {
+    Random::new(seed.wrapping_mul(0x1_0000_0001).wrapping_add(index))
+}
+
+/// So many pictures: every other one from the families of a batch, and between them pictures that do
+/// not read, for each of the numbers 1 to 10 in turn.
+pub fn pictures(seed: u64, count: u64) -> impl Iterator<Item = Vec<u8>> {
+    (0..count).map(move |index| {
+        let random = &mut random_of(seed, index);
+        match index % 2 {
+            0 => random_picture(random),
+            _ => refused_picture(random, 1 + (index / 2 % 10) as u8),
+        }
+    })
+}
+
+/// A picture refused by a number from 1 to 10, often for more than one cause; several tries, and
+/// whatever the last one gives.
+fn refused_picture(random: &mut Random, number: u8) -> Vec<u8> {
+    let good = if random.percent(50) { wild(random) } else { sound_draft(random) }.bytes();
+    let mut picture = Vec::new();
+    for _ in 0..2_000 {
+        picture = match number {
+            7 => chain_at_the_edge(random),
+            _ => good.clone(),
+        };
+        match number {
+            7 => scatter_own_ids(random, &mut picture),
+            8 if random.percent(50) => scramble_settings(random, &mut picture),
+            9 if random.percent(50) => scramble_starts(random, &mut picture),
+            _ => spoil(random, &mut picture),
+        }
+        if read(&picture).is_err_and(|refusal| refusal.number == number) {
+            break;
+        }
+    }
+    picture
 }
 
 /// The hand-written cases and all edges of reading, as a batch.
