@@ -45,6 +45,16 @@ pub fn spoil(random: &mut Random, picture: &mut Vec<u8>) {
     }
 }
 
+/// Some port but the first becomes a switch port below any lower one.
+pub fn misplace(random: &mut Random, picture: &mut Vec<u8>) {
+    let at = any_record(random, picture);
+    let port = (at as u64 - 16) / 56;
+    if port > 0 {
+        picture[at] = random.pick(&[UPSTREAM, DOWNSTREAM]);
+        picture[at + 1] = random.below(port) as u8;
+    }
+}
+
 /// Random FPB registers and low bits of range registers for some port, so that much is wrong at once.
 pub fn scramble_settings(random: &mut Random, picture: &mut Vec<u8>) {
     let at = any_record(random, picture);
@@ -64,6 +74,10 @@ pub fn scramble_settings(random: &mut Random, picture: &mut Vec<u8>) {
 /// Random starts for all vectors of some port, and often ARI.
 pub fn scramble_starts(random: &mut Random, picture: &mut Vec<u8>) {
     let at = any_record(random, picture);
+    let enabled = [32, 40, 44].iter().any(|control| picture[at + control] & 1 == 1);
+    if !enabled {
+        return;
+    }
     for (register, start_bits) in
         [(32, 0xFFF8_0000u32), (40, 0xFFF0_0000), (44, 0xF000_0000), (48, 0xFFFF_FFFF)]
     {
@@ -71,7 +85,7 @@ pub fn scramble_starts(random: &mut Random, picture: &mut Vec<u8>) {
         put_4(picture, at + register, old & !start_bits | random.bits() as u32 & start_bits);
     }
     if random.percent(50) {
-        picture[at + 24] ^= 0x20;
+        picture[at + 24] |= 0x20;
     }
 }
 

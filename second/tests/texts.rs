@@ -250,3 +250,51 @@ fn pictures_of_all_numbers_occur_and_one_seed_gives_the_same() {
     }
     assert!(pictures(1, 20).eq(drawn.into_iter().take(20)));
 }
+
+/// What the texts of 150 pictures, as many as tests/differential.sh takes, have somewhere.
+const PHRASES: [&str; 33] = [
+    "it has none",
+    "it has more than 65,536.",
+    "the header says",
+    "unknown kind",
+    ", parent ",
+    ", no parent",
+    "whose parent is a root port",
+    "whose parent is a switch upstream port",
+    "whose parent is a switch downstream port",
+    "with a child already",
+    "RID vector is enabled but not supported",
+    "MEM Low vector is enabled but not supported",
+    "MEM High vector is enabled but not supported",
+    "and granularity code",
+    "Prefetchable Memory Base",
+    "RID vector starts at",
+    "MEM Low vector starts at",
+    "MEM High vector starts at",
+    ", in a port with ARI",
+    "begin at byte",
+    "the last ones do not, and",
+    "is held by port",
+    "claims its own ID",
+    "does not claim it",
+    "on as Type 1",
+    "with Unsupported Request",
+    "memory space off",
+    "; prefetchable ",
+    ", device port, ARI; ",
+    "; MEM High vector ",
+    "\n |  ",
+    "\n    ",
+    "-[]  port",
+];
+
+#[test]
+fn every_phrase_occurs() {
+    let texts: String = pictures(1, 150).map(|picture| explain(&picture) + &tree(&picture)).collect();
+    for phrase in PHRASES {
+        assert!(texts.contains(phrase), "{phrase}");
+    }
+    let without_granularity =
+        |part: &str| part.contains("has size code") && !part.contains("granularity code");
+    assert!(texts.split([';', '\n']).any(without_granularity));
+}
