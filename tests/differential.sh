@@ -1,8 +1,10 @@
 #!/usr/bin/env bash
 # differential.sh [SEED [PICTURES]]: the proved judge against the second program (second/README.md), call by call: report,
 # check and walk (40 bytes each), claim and conversion. Runs the second program's own tests, then the hand-written cases, all
-# edges of reading and PICTURES random pictures of seed SEED. A longer run with another seed: tests/differential.sh 7 50000
-# A difference prints the picture's file, the call and both answers. Last line: N passed, M failed, counting answers and tests.
+# edges of reading and PICTURES random pictures of seed SEED; then what `fpb report --explain' and `fpb tree' print of 150
+# pictures, or of 15 in a hundred of PICTURES if that is more. A longer run with another seed: tests/differential.sh 7 50000
+# A difference prints the picture's file, the call and both answers, or a diff of both texts.
+# Last line: N passed, M failed, counting answers, texts and tests.
 set -u
 cd "$(dirname "$0")/.." || exit 2
 self=tests/differential.sh
@@ -30,7 +32,9 @@ rm -rf "$work"
 mkdir -p "$work"
 (cd second && cargo build --release --offline --quiet) || give_up "the second program does not build"
 second=$PWD/second/target/release/second
-build batch || give_up "the batch program is not proved"
+for program in batch report tree; do
+    build "$program" || give_up "the $program program is not proved"
+done
 echo "built at $SECONDS s"
 
 tests=$(cd second && cargo test --offline --quiet 2>&1) || { printf '%s\n' "$tests"; give_up "the second program's own tests fail"; }
@@ -63,14 +67,44 @@ compare() {
     echo "$name: $same answers agree, $other differ (at $SECONDS s)"
 }
 
+# compare_text PICTURE COMMAND PROGRAM WORDS..: what a program prints of a picture, against the second program's COMMAND
+compare_text() {
+    local picture=$1 command=$2
+    shift 2
+    "$second" "$command" <"$picture" >"$work/text.expected" &
+    run_built "$@" <"$picture" >"$work/text.actual" || echo "$1: status $?"
+    wait $! || echo "second: status $?"
+    if [ -s "$work/text.expected" ] && cmp -s "$work/text.expected" "$work/text.actual"; then
+        passed=$((passed + 1))
+    else
+        failed=$((failed + 1))
+        echo "$picture: $* (actual, +) differs from second $command (expected, -)"
+        diff -u "$work/text.expected" "$work/text.actual" | tail -n +3
+    fi
+}
+
+# compare_texts SEED COUNT: both texts of so many pictures
+compare_texts() {
+    local before=$failed n
+    "$second" pictures "$1" "$2" "$work/pictures" || give_up "no pictures of seed $1"
+    for ((n = 1; n <= $2; n++)); do
+        compare_text "$work/pictures/$n.picture" explain report explain
+        compare_text "$work/pictures/$n.picture" tree tree
+    done
+    echo "explain and tree: $((2 * $2 - failed + before)) texts agree, $((failed - before)) differ (at $SECONDS s)"
+}
+
 # the hand-written cases, and a picture longer than the batch program keeps
 { "$second" batch; printf 'P\100\0\1\0'; head -c 65600 /dev/zero; printf RC; } >"$work/hand-written.batch"
 compare hand-written
+texts=$((pictures * 15 / 100 > 150 ? pictures * 15 / 100 : 150))
+first_seed=$seed
 while [ "$pictures" -gt 0 ]; do
     now=$((pictures < chunk ? pictures : chunk))
     "$second" generate "$seed" "$now" >"$work/seed-$seed.batch" || give_up "no pictures of seed $seed"
     compare "seed-$seed"
     seed=$((seed + 1)) pictures=$((pictures - now))
 done
+compare_texts "$first_seed" "$texts"
 echo "$passed passed, $failed failed"
 [ "$failed" -eq 0 ]

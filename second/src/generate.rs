@@ -3,13 +3,15 @@
 use crate::batch::Record;
 use crate::breaking::{break_once, shake};
 use crate::cases::all_cases;
-use crate::draft::Draft;
+use crate::draft::{Draft, DraftPort, NO_PARENT, ROOT, UPSTREAM};
 use crate::judge::Judge;
-use crate::picture::{Picture, Port, Refusal, Target, Vector, FOUR_GIB};
+use crate::picture::{read, Picture, Port, Refusal, Target, Vector, FOUR_GIB};
 use crate::random::Random;
 use crate::samples::{sample, SAMPLE_NAMES};
 use crate::sound::{fill, Taste};
-use crate::spoil::{chain_at_the_edge, reading_edges, spoil};
+use crate::spoil::{
+    chain_at_the_edge, misplace, reading_edges, scatter_own_ids, scramble_settings, scramble_starts, spoil,
+};
 use crate::topology::{grow, port_count, ALL_FORMS};
 use crate::wild::{add_noise, make_memory_wild, wild};
 
@@ -22,15 +24,71 @@ const BAD_KINDS: [u32; 5] = [3, 255, 256, 258, u32::MAX];
 /// IDs over FFFFh, some of which would be good IDs if they were cut.
 const LONG_IDS: [u64; 4] = [0x1_0000, 0x1_0308, 0x1_0000_0000, u64::MAX];
 
+/// Numbers in turn, those whose sentences have many forms more than once.
+const TURNS: [u8; 15] = [1, 6, 2, 8, 3, 9, 6, 4, 5, 8, 7, 6, 9, 10, 15];
+
 /// A batch of so many pictures; the same seed gives the same batch.
 pub fn generate(seed: u64, count: u64) -> Vec<u8> {
     let mut batch = Vec::new();
     for index in 0..count {
-        let random = &mut Random::new(seed.wrapping_mul(0x1_0000_0001).wrapping_add(index));
+        let random = &mut random_of(seed, index);
         let picture = random_picture(random);
         write_with_calls(random, picture, &mut batch);
     }
     batch
+}
+
+/// The random numbers of one picture of a seed.
+fn random_of(seed: u64, index: u64) -> Random {
+    Random::new(seed.wrapping_mul(0x1_0000_0001).wrapping_add(index))
+}
+
+/// So many pictures: every other one from the families of a batch, and between them pictures for each
+/// of these numbers in turn.
+pub fn pictures(seed: u64, count: u64) -> impl Iterator<Item = Vec<u8>> {
+    (0..count).map(move |index| {
+        let random = &mut random_of(seed, index);
+        match (index % 2, TURNS[index as usize / 2 % TURNS.len()]) {
+            (0, _) => random_picture(random),
+            (_, 15) => unreached_picture(random),
+            (_, number) => refused_picture(random, number),
+        }
+    })
+}
+
+/// A picture refused by a number from 1 to 10, often for more than one cause; several tries, and
+/// whatever the last one gives.
+fn refused_picture(random: &mut Random, number: u8) -> Vec<u8> {
+    let good = if random.percent(50) { wild(random) } else { sound_draft(random) }.bytes();
+    let mut picture = Vec::new();
+    for _ in 0..2_000 {
+        picture = match number {
+            7 => chain_at_the_edge(random),
+            _ => good.clone(),
+        };
+        match number {
+            6 if random.percent(60) => misplace(random, &mut picture),
+            7 => scatter_own_ids(random, &mut picture),
+            8 if random.percent(75) => scramble_settings(random, &mut picture),
+            9 if random.percent(75) => scramble_starts(random, &mut picture),
+            _ => spoil(random, &mut picture),
+        }
+        if read(&picture).is_err_and(|refusal| refusal.number == number) {
+            break;
+        }
+    }
+    picture
+}
+
+/// Number 15: a switch on the Secondary bus of its root port, with another device number than 0; seldom on
+/// a bus behind it.
+fn unreached_picture(random: &mut Random) -> Vec<u8> {
+    let secondary = random.between(1, 200) as u8;
+    let bus = secondary + random.pick(&[0, 0, 0, 1]);
+    let own_id = (bus as u16) << 8 | random.between(8, 255) as u16;
+    let root = DraftPort::silent(ROOT, NO_PARENT, random.below(256) as u16);
+    let root = root.buses(secondary, secondary + random.between(1, 50) as u8);
+    Draft::of(vec![root, DraftPort::silent(UPSTREAM, 0, own_id)]).bytes()
 }
 
 /// The hand-written cases and all edges of reading, as a batch.

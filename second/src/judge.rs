@@ -153,7 +153,7 @@ fn walk_bytes(walk: &Walk) -> [u8; 40] {
 }
 
 /// The one line of a refusal.
-fn report_of_refusal(refusal: &Refusal) -> String {
+pub fn report_of_refusal(refusal: &Refusal) -> String {
     let mut line = format!("refused {}", refusal.number);
     match refusal.target {
         Some(Target::Id(id)) => line += &format!(" id {id:04x}"),

@@ -5,8 +5,10 @@ use std::io::{Read, Write};
 use std::process::ExitCode;
 
 use second::batch::{answers, differences, Record, Records};
-use second::generate::{generate, hand_written};
+use second::explain::explain;
+use second::generate::{generate, hand_written, pictures};
 use second::samples::{sample, SAMPLE_NAMES};
+use second::tree::tree;
 
 const USAGE: &str = "usage:
   second generate SEED COUNT                 a random batch on standard output
@@ -15,7 +17,10 @@ const USAGE: &str = "usage:
   second compare EXPECTED ACTUAL BATCH       first differences; status 1 if there are any
   second tally ANSWERS BATCH                 how often each number and end was given
   second picture SEED KIND                   a full sound picture on standard output; KIND is
-                                             flat, nested, chain, high, low, rid or wide";
+                                             flat, nested, chain, high, low, rid or wide
+  second pictures SEED COUNT FOLDER          random pictures, FOLDER/1.picture and so on
+  second tree                                what `fpb tree' prints of the picture on standard input
+  second explain                             what `fpb report --explain' prints of it";
 
 /// How many differences are shown.
 const DIFFERENCES_SHOWN: usize = 5;
@@ -30,6 +35,9 @@ fn main() -> ExitCode {
         ["compare", expected, actual, batch] => compare_command(expected, actual, batch),
         ["tally", answers, batch] => tally_command(answers, batch),
         ["picture", seed, kind] => picture_command(seed, kind),
+        ["pictures", seed, count, folder] => pictures_command(seed, count, folder),
+        ["tree"] => print_of_picture(tree),
+        ["explain"] => print_of_picture(explain),
         _ => Err(USAGE.to_string()),
     };
     done.unwrap_or_else(|message| {
@@ -54,6 +62,13 @@ fn read_bytes(path: &str) -> Result<Vec<u8>, String> {
     std::fs::read(path).map_err(|error| format!("{path}: {error}"))
 }
 
+/// All of standard input.
+fn standard_input() -> Result<Vec<u8>, String> {
+    let mut bytes = Vec::new();
+    std::io::stdin().read_to_end(&mut bytes).map_err(|error| error.to_string())?;
+    Ok(bytes)
+}
+
 /// A decimal number out of the command line.
 fn number(word: &str) -> Result<u64, String> {
     word.parse().map_err(|_| format!("{word} is no number"))
@@ -66,9 +81,7 @@ fn generate_command(seed: &str, count: &str) -> Result<ExitCode, String> {
 
 /// `answers`
 fn answers_command() -> Result<ExitCode, String> {
-    let mut batch = Vec::new();
-    std::io::stdin().read_to_end(&mut batch).map_err(|error| error.to_string())?;
-    let mut text = answers(&batch)?.join("\n");
+    let mut text = answers(&standard_input()?)?.join("\n");
     if !text.is_empty() {
         text.push('\n');
     }
@@ -144,4 +157,19 @@ fn picture_command(seed: &str, kind: &str) -> Result<ExitCode, String> {
         Some(draft) => print(&draft.bytes()),
         None => Err(format!("the kinds are {}", SAMPLE_NAMES.join(", "))),
     }
+}
+
+/// `pictures SEED COUNT FOLDER`
+fn pictures_command(seed: &str, count: &str, folder: &str) -> Result<ExitCode, String> {
+    std::fs::create_dir_all(folder).map_err(|error| format!("{folder}: {error}"))?;
+    for (index, picture) in pictures(number(seed)?, number(count)?).enumerate() {
+        let file = format!("{folder}/{}.picture", index + 1);
+        std::fs::write(&file, picture).map_err(|error| format!("{file}: {error}"))?;
+    }
+    Ok(ExitCode::SUCCESS)
+}
+
+/// `tree` or `explain`
+fn print_of_picture(text: fn(&[u8]) -> String) -> Result<ExitCode, String> {
+    print(text(&standard_input()?).as_bytes())
 }

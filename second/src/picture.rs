@@ -93,6 +93,8 @@ pub struct Port {
     pub subordinate: u8,
     pub memory: AddressRange,
     pub prefetchable: AddressRange,
+    /// Prefetchable is of type 1, of 64 bits.
+    pub prefetchable_is_64: bool,
     /// ARI Forwarding Enable, at a root or downstream port (it means nothing at an upstream port).
     pub ari: bool,
     pub num_sec_dev: u16,
@@ -127,18 +129,20 @@ impl Picture {
 }
 
 /// The 56 bytes of one port, with its fields by name.
-struct Record<'a> {
+pub struct Record<'a> {
     bytes: &'a [u8],
 }
 
 /// One of the three vectors as a record sets it. A size or granularity that 001 reserves, or does
 /// not allow together, is `None`. The start is in IDs or in bytes, like the granularity.
-struct Setting {
-    supported: bool,
-    enabled: bool,
-    size: Option<u64>,
-    granularity: Option<u64>,
-    start: u64,
+pub struct Setting {
+    pub supported: bool,
+    pub enabled: bool,
+    pub size_code: u32,
+    pub granularity_code: u32,
+    pub size: Option<u64>,
+    pub granularity: Option<u64>,
+    pub start: u64,
 }
 
 impl Setting {
@@ -147,6 +151,21 @@ impl Setting {
         match self.size {
             Some(size) if self.supported => (size / 8) as usize,
             _ => 0,
+        }
+    }
+
+    /// Number 8's rule for the codes: of the size where supported, of the granularity where enabled.
+    pub fn codes_are_good(&self) -> bool {
+        let size = self.size.is_some() || !self.supported;
+        let granularity = self.granularity.is_some() || !self.enabled;
+        size && granularity
+    }
+
+    /// Number 9's rule: an enabled start is a multiple of the granularity.
+    pub fn is_aligned(&self) -> bool {
+        match self.granularity {
+            Some(granularity) if self.enabled => self.start % granularity == 0,
+            _ => true,
         }
     }
 }
@@ -207,7 +226,7 @@ fn high_granularity(code: u32) -> Option<u64> {
 }
 
 impl Record<'_> {
-    fn kind(&self) -> Option<Kind> {
+    pub fn kind(&self) -> Option<Kind> {
         match self.bytes[0] {
             0 => Some(Kind::Root),
             1 => Some(Kind::Upstream),
@@ -216,8 +235,22 @@ impl Record<'_> {
         }
     }
 
-    fn parent(&self) -> u8 {
+    /// The kind as its byte has it, known or not.
+    pub fn kind_code(&self) -> u8 {
+        self.bytes[0]
+    }
+
+    pub fn parent(&self) -> u8 {
         self.bytes[1]
+    }
+
+    pub fn own_id(&self) -> u16 {
+        half(self.bytes, 2)
+    }
+
+    /// Memory Base and Limit, Prefetchable Memory Base and Limit, with all their bits.
+    pub fn range_registers(&self) -> [u16; 4] {
+        [8, 10, 12, 14].map(|at| half(self.bytes, at))
     }
 
     fn capabilities(&self) -> u32 {
@@ -229,12 +262,12 @@ impl Record<'_> {
     }
 
     /// Where the port says that its vectors start.
-    fn vectors_start(&self) -> u32 {
+    pub fn vectors_start(&self) -> u32 {
         word(self.bytes, 52)
     }
 
     /// ARI Forwarding Enable, which means nothing at an upstream port.
-    fn ari(&self) -> bool {
+    pub fn ari(&self) -> bool {
         self.kind() != Some(Kind::Upstream) && half(self.bytes, 24) >> 5 & 1 == 1
     }
 
@@ -246,6 +279,8 @@ impl Record<'_> {
         Setting {
             supported: bits(capabilities, 0, 0) == 1,
             enabled: bits(control, 0, 0) == 1,
+            size_code,
+            granularity_code: bits(control, 7, 4),
             size: rid_size(size_code),
             granularity: rid_granularity(bits(control, 7, 4), size_code),
             start: bits(control, 31, 19) as u64 * 8,
@@ -260,6 +295,8 @@ impl Record<'_> {
         Setting {
             supported: bits(capabilities, 1, 1) == 1,
             enabled: bits(control, 0, 0) == 1,
+            size_code,
+            granularity_code: bits(control, 7, 4),
             size: low_size(size_code),
             granularity: low_granularity(bits(control, 7, 4), size_code),
             start: bits(control, 31, 20) as u64 * MIB,
@@ -271,17 +308,20 @@ impl Record<'_> {
         let capabilities = self.capabilities();
         let control_1 = word(self.bytes, 44);
         let control_2 = word(self.bytes, 48);
+        let size_code = bits(capabilities, 26, 24);
         Setting {
             supported: bits(capabilities, 2, 2) == 1,
             enabled: bits(control_1, 0, 0) == 1,
-            size: high_size(bits(capabilities, 26, 24)),
+            size_code,
+            granularity_code: bits(control_1, 7, 4),
+            size: high_size(size_code),
             granularity: high_granularity(bits(control_1, 7, 4)),
             start: (control_2 as u64) << 32 | (bits(control_1, 31, 28) as u64) << 28,
         }
     }
 
     /// The three vectors in the order in which they follow one another.
-    fn settings(&self) -> [Setting; 3] {
+    pub fn settings(&self) -> [Setting; 3] {
         [self.rid(), self.low(), self.high()]
     }
 
@@ -308,7 +348,7 @@ impl Record<'_> {
     }
 
     /// Number 8's rule for the low bits of the Memory and Prefetchable registers.
-    fn range_bits_are_good(&self) -> bool {
+    pub fn range_bits_are_good(&self) -> bool {
         let low_bits = |at| half(self.bytes, at) & 0xF;
         let memory = low_bits(8) == 0 && low_bits(10) == 0;
         let prefetchable = low_bits(12) <= 1 && low_bits(12) == low_bits(14);
@@ -319,22 +359,20 @@ impl Record<'_> {
     fn settings_are_good(&self) -> bool {
         let vectors = self.settings().iter().all(|setting| {
             let supported = setting.supported || !setting.enabled;
-            let size = setting.size.is_some() || !setting.supported;
-            let granularity = setting.granularity.is_some() || !setting.enabled;
-            supported && size && granularity
+            supported && setting.codes_are_good()
         });
         vectors && self.range_bits_are_good()
     }
 
     /// Everything that number 9 looks at; the settings are good already.
     fn starts_are_good(&self) -> bool {
-        let aligned = self.settings().iter().all(|setting| match setting.granularity {
-            Some(granularity) if setting.enabled => setting.start % granularity == 0,
-            _ => true,
-        });
+        self.settings().iter().all(Setting::is_aligned) && self.keeps_the_rule_of_ari()
+    }
+
+    /// Number 9's rule of ARI: a RID vector that is enabled starts at the first ID of a bus.
+    pub fn keeps_the_rule_of_ari(&self) -> bool {
         let bound_by_ari = self.ari() && self.rid().enabled;
-        let ari = !bound_by_ari || bits(self.rid_control_1(), 23, 19) == 0;
-        aligned && ari
+        !bound_by_ari || bits(self.rid_control_1(), 23, 19) == 0
     }
 }
 
@@ -346,8 +384,7 @@ fn register_address(register: u16) -> u64 {
 /// Reads a picture: the lowest number from 1 to 10 that applies, or its ports.
 pub fn read(picture: &[u8]) -> Result<Picture, Refusal> {
     let count = read_header(picture)?;
-    let records: Vec<Record> =
-        (0..count).map(|port| Record { bytes: &picture[16 + 56 * port..16 + 56 * (port + 1)] }).collect();
+    let records = records(picture, count);
     judge_family(&records)?;
     judge_chains(&records)?;
     refuse_first(8, &records, |record| record.settings_are_good())?;
@@ -355,6 +392,21 @@ pub fn read(picture: &[u8]) -> Result<Picture, Refusal> {
     judge_layout(&records, picture.len())?;
     let ports = records.iter().map(|record| read_port(record, picture)).collect();
     Ok(Picture { ports })
+}
+
+/// The records of that many ports; the picture has room for them.
+fn records(picture: &[u8], count: usize) -> Vec<Record<'_>> {
+    (0..count).map(|port| Record { bytes: &picture[16 + 56 * port..16 + 56 * (port + 1)] }).collect()
+}
+
+/// The header's fields as they stand: edition, count and total. The picture has 72 bytes or more.
+pub fn header_fields(picture: &[u8]) -> (u16, u16, u32) {
+    (half(picture, 0), half(picture, 2), word(picture, 4))
+}
+
+/// The records of a picture whose header is good, whatever they hold; none if it is not.
+pub fn records_of(picture: &[u8]) -> Vec<Record<'_>> {
+    read_header(picture).map_or(Vec::new(), |count| records(picture, count))
 }
 
 /// Numbers 1 to 5; gives the port count.
@@ -474,6 +526,7 @@ fn read_port(record: &Record, picture: &[u8]) -> Port {
         subordinate: record.bytes[7],
         memory: record.memory(),
         prefetchable: record.prefetchable(),
+        prefetchable_is_64: half(record.bytes, 12) & 0xF == 1,
         ari: record.ari(),
         num_sec_dev: bits(record.capabilities(), 7, 3) as u16,
         secondary_start: bits(word(record.bytes, 36), 15, 3) as u16,

@@ -45,6 +45,57 @@ pub fn spoil(random: &mut Random, picture: &mut Vec<u8>) {
     }
 }
 
+/// Some port but the first becomes a switch port below any lower one.
+pub fn misplace(random: &mut Random, picture: &mut Vec<u8>) {
+    let at = any_record(random, picture);
+    let port = (at as u64 - 16) / 56;
+    if port > 0 {
+        picture[at] = random.pick(&[UPSTREAM, DOWNSTREAM]);
+        picture[at + 1] = random.below(port) as u8;
+    }
+}
+
+/// Random FPB registers and low bits of range registers for some port, so that much is wrong at once.
+pub fn scramble_settings(random: &mut Random, picture: &mut Vec<u8>) {
+    let at = any_record(random, picture);
+    for register in [28, 32, 40, 44] {
+        let bits = random.bits() as u32;
+        put_4(picture, at + register, bits);
+    }
+    if random.percent(50) {
+        edit_range_bits(random, picture);
+    }
+    if random.percent(25) {
+        picture[at + 8] ^= random.pick(&[1, 2, 15]);
+        picture[at + 14] ^= random.pick(&[1, 2, 15]);
+    }
+}
+
+/// Random starts for all vectors of some port, and often ARI.
+pub fn scramble_starts(random: &mut Random, picture: &mut Vec<u8>) {
+    let at = any_record(random, picture);
+    let enabled = [32, 40, 44].iter().any(|control| picture[at + control] & 1 == 1);
+    if !enabled {
+        return;
+    }
+    for (register, start_bits) in
+        [(32, 0xFFF8_0000u32), (40, 0xFFF0_0000), (44, 0xF000_0000), (48, 0xFFFF_FFFF)]
+    {
+        let old = get_4(picture, at + register);
+        put_4(picture, at + register, old & !start_bits | random.bits() as u32 & start_bits);
+    }
+    if random.percent(50) {
+        picture[at + 24] |= 0x20;
+    }
+}
+
+/// A random own ID for every port of a picture without an edit.
+pub fn scatter_own_ids(random: &mut Random, picture: &mut Vec<u8>) {
+    for port in 0..picture[2] as usize {
+        put_2(picture, 16 + 56 * port + 2, random.bits() as u16);
+    }
+}
+
 /// A chain whose length is at the edge, among other ports.
 pub fn chain_at_the_edge(random: &mut Random) -> Vec<u8> {
     let length = random.pick(&[15, 16, 17, 18, 40]);

@@ -1,0 +1,237 @@
+//! The report in words: its lines, and one sentence more that says what the number means here.
+
+use crate::claims::Conversion;
+use crate::draft::{Which, ALL_VECTORS};
+use crate::judge::Judge;
+use crate::picture::{header_fields, records_of, Kind, Picture, Record, Refusal, Setting, Target};
+use crate::words::{granularity_text, id_text, kind_text, start_text, vector_name};
+
+/// The texts of the numbers 0 to 15, as tests/number-texts has them.
+pub const NUMBER_TEXTS: [&str; 16] = [
+    "nothing was found wrong",
+    "the picture is shorter than 72 bytes or longer than 65,536",
+    "the picture's edition is not 1",
+    "the picture has no port, or more than 64",
+    "the total length in the header is not the picture's length",
+    "the records or the vectors do not begin where they must, or the records go past the picture's end",
+    "a port breaks a rule of the tree, by its kind, its parent or as a later child",
+    "a port has more than 15 ports above it in its chain",
+    "a port has a vector enabled that it does not support, a size or granularity that may not be, or wrong \
+     low bits in a memory register",
+    "an enabled vector starts where it may not",
+    "a port's vectors do not begin where they must, or the last ones do not end where the picture ends",
+    "an ID has two holders at one place, or a port claims its own ID",
+    "an address has two holders at one place",
+    "a port holds an ID that its parent does not claim",
+    "a port holds an address that its parent does not claim",
+    "a port's own ID is not both claimed and made Type 0 by its parent",
+];
+
+/// What follows the text of number 0.
+const CLEAR: &str =
+    ": no ID or address has two holders at one place, and no port holds what its parent does not claim";
+
+/// What the report program prints with `explain`.
+pub fn explain(bytes: &[u8]) -> String {
+    let judge = Judge::new(bytes);
+    let refusal = judge.check().err().unwrap_or(Refusal::bare(0));
+    let text = with_upper_case(NUMBER_TEXTS[refusal.number as usize]);
+    format!("{}{text}{}.\n", judge.report(), what_follows(bytes, &judge, &refusal))
+}
+
+/// The text with its first letter upper case.
+fn with_upper_case(text: &str) -> String {
+    let (first, rest) = text.split_at(1);
+    first.to_uppercase() + rest
+}
+
+/// What follows the number's text, up to the full stop.
+fn what_follows(bytes: &[u8], judge: &Judge, refusal: &Refusal) -> String {
+    match refusal.number {
+        0 => CLEAR.to_string(),
+        1 => length_text(bytes.len()),
+        2..=5 => header_text(bytes, refusal.number),
+        6..=10 => record_text(bytes, refusal),
+        _ => match judge.reading() {
+            Ok(picture) => check_text(bytes, picture, refusal),
+            Err(_) => String::new(),
+        },
+    }
+}
+
+/// Number 1.
+fn length_text(length: usize) -> String {
+    match length {
+        1 => ": it has 1 byte".to_string(),
+        0..=65_536 => format!(": it has {length} bytes"),
+        _ => ": it has more than 65,536".to_string(),
+    }
+}
+
+/// Numbers 2 to 5.
+fn header_text(bytes: &[u8], number: u8) -> String {
+    match (number, header_fields(bytes)) {
+        (2, (edition, _, _)) => format!(": it is {edition}"),
+        (3, (_, 0, _)) => ": it has none".to_string(),
+        (3, (_, count, _)) => format!(": it has {count}"),
+        (4, (_, _, total)) => format!(": the header says {total}, and the picture has {} bytes", bytes.len()),
+        _ => String::new(),
+    }
+}
+
+/// Numbers 6 to 10, each of which names one port, or the end.
+fn record_text(bytes: &[u8], refusal: &Refusal) -> String {
+    let records = records_of(bytes);
+    let port = refusal.ports[0] as usize;
+    match refusal.number {
+        6 => format!(": {}", misplaced_port(&records, port)),
+        7 => format!(": {}", port_in_tree(&records, port)),
+        8 => format!(": {}{}", port_in_tree(&records, port), causes_of_8(&records[port])),
+        9 => format!(": {}{}", port_in_tree(&records, port), causes_of_9(&records[port])),
+        _ if port == 255 => format!(": the last ones do not, and the picture has {} bytes", bytes.len()),
+        _ => {
+            let start = records[port].vectors_start();
+            format!(": those of {} begin at byte {start}", port_in_tree(&records, port))
+        }
+    }
+}
+
+/// The ports from this one up: `, below port 1, 01:00.0, below port 0, 00:01.0`.
+fn below_text(records: &[Record], parent: usize) -> String {
+    let record = &records[parent];
+    let text = format!(", below port {parent}, {}", id_text(record.own_id()));
+    match record.kind() {
+        Some(Kind::Root) => text,
+        _ => text + &below_text(records, record.parent() as usize),
+    }
+}
+
+/// A port with the tree above it, which keeps the rules.
+fn port_in_tree(records: &[Record], port: usize) -> String {
+    let record = &records[port];
+    let place = match record.kind() {
+        Some(Kind::Root) => ", a root port".to_string(),
+        _ => below_text(records, record.parent() as usize),
+    };
+    format!("port {port} ({}{place})", id_text(record.own_id()))
+}
+
+/// A port that breaks a rule of the tree. All lower ports keep them.
+fn misplaced_port(records: &[Record], port: usize) -> String {
+    let record = &records[port];
+    let kind = match record.kind() {
+        Some(kind) => kind_text(kind).to_string(),
+        None => format!("unknown kind {}", record.kind_code()),
+    };
+    let place = match record.parent() {
+        parent if (parent as usize) < port => below_text(records, parent as usize),
+        255 => ", no parent".to_string(),
+        parent => format!(", parent {parent}"),
+    };
+    format!("port {port} ({}, {kind}{place}){}", id_text(record.own_id()), parent_text(records, port))
+}
+
+/// Of an upstream or downstream port with a lower parent: what the parent is, and whether it had a
+/// child before an upstream port.
+fn parent_text(records: &[Record], port: usize) -> String {
+    let parent = records[port].parent();
+    let kind = records[port].kind();
+    let Some(parent_kind) = records[..port].get(parent as usize).and_then(Record::kind) else {
+        return String::new();
+    };
+    let has_child = records[..port].iter().any(|other| other.parent() == parent);
+    let parent_is = format!(", whose parent is a {}", kind_text(parent_kind));
+    match kind {
+        Some(Kind::Upstream) if has_child => parent_is + " with a child already",
+        Some(Kind::Upstream | Kind::Downstream) => parent_is,
+        _ => String::new(),
+    }
+}
+
+/// Every cause of number 8 at a port.
+fn causes_of_8(record: &Record) -> String {
+    let vectors = ALL_VECTORS.into_iter().zip(record.settings());
+    let mut text: String = vectors.map(|(which, setting)| codes_text(which, &setting)).collect();
+    if !record.range_bits_are_good() {
+        let [base, limit, prefetchable_base, prefetchable_limit] = record.range_registers();
+        text += &format!("; it has Memory Base {base:04x} and Limit {limit:04x}, ");
+        text +=
+            &format!("Prefetchable Memory Base {prefetchable_base:04x} and Limit {prefetchable_limit:04x}");
+    }
+    text
+}
+
+/// What is wrong with a vector's enable bit, size and granularity.
+fn codes_text(which: Which, setting: &Setting) -> String {
+    let name = vector_name(which);
+    let mut text = String::new();
+    if setting.enabled && !setting.supported {
+        text += &format!("; its {name} is enabled but not supported");
+    }
+    if !setting.codes_are_good() {
+        text += &format!("; its {name} has size code {}", setting.size_code);
+        if setting.enabled {
+            text += &format!(" and granularity code {}", setting.granularity_code);
+        }
+    }
+    text
+}
+
+/// Every cause of number 9 at a port.
+fn causes_of_9(record: &Record) -> String {
+    let mut text = String::new();
+    for (which, setting) in ALL_VECTORS.into_iter().zip(record.settings()) {
+        let breaks_ari = which == Which::Rid && !record.keeps_the_rule_of_ari();
+        if breaks_ari || !setting.is_aligned() {
+            text += &misplaced_start(which, &setting);
+            text += if which == Which::Rid && record.ari() { ", in a port with ARI" } else { "" };
+        }
+    }
+    text
+}
+
+/// Where a vector starts, and what its entries stand for.
+fn misplaced_start(which: Which, setting: &Setting) -> String {
+    let (name, start) = (vector_name(which), start_text(which, setting.start));
+    let granularity = granularity_text(which, setting.granularity.expect("number 8 is behind us"));
+    format!("; its {name} starts at {start} and has entries of {granularity}")
+}
+
+/// An ID or an address in words.
+fn target_text(target: Target) -> String {
+    match target {
+        Target::Id(id) => format!("ID {} ({id:04x})", id_text(id)),
+        Target::Address(address) => format!("address {address:016x}"),
+    }
+}
+
+/// Numbers 11 to 15.
+fn check_text(bytes: &[u8], picture: &Picture, refusal: &Refusal) -> String {
+    let records = records_of(bytes);
+    let named = |port: u8| port_in_tree(&records, port as usize);
+    match (refusal.target, refusal.ports.as_slice()) {
+        (Some(target), [port, other]) if port == other => {
+            format!(": {} claims its own {}", named(*port), target_text(target))
+        }
+        (Some(target), [first, second]) => {
+            format!(": {} is held by {} and by {}", target_text(target), named(*first), named(*second))
+        }
+        (Some(target), [port]) => {
+            let parent = records[*port as usize].parent();
+            let target = target_text(target);
+            format!(": {target} is held by {}, and port {parent} does not claim it", named(*port))
+        }
+        (_, ports) => format!(": {}, and {}", named(ports[0]), conversion_text(picture, ports[0] as usize)),
+    }
+}
+
+/// What the parent of a port makes of configuration requests for the port's own ID, if not Type 0.
+fn conversion_text(picture: &Picture, port: usize) -> String {
+    let parent = picture.ports[port].parent.expect("15 names no root port");
+    let what = match picture.ports[parent].conversion(picture.ports[port].own_id) {
+        Conversion::Type1 => "passes configuration requests for it on as Type 1",
+        Conversion::Unsupported => "answers configuration requests for it with Unsupported Request",
+        other => unreachable!("{other:?} is no cause of number 15"),
+    };
+    format!("port {parent} {what}")
+}

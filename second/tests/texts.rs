@@ -1,0 +1,300 @@
+//! The sentence and the drawing, held against what docs/PICTURE.md writes out.
+
+use second::draft::{Draft, DraftPort, VectorShape, Which, DOWNSTREAM, NO_PARENT, ROOT, UPSTREAM};
+use second::explain::{explain, NUMBER_TEXTS};
+use second::generate::pictures;
+use second::judge::Judge;
+use second::tree::tree;
+
+/// A root port 00:01.0 that claims nothing.
+fn root() -> DraftPort {
+    DraftPort::silent(ROOT, NO_PARENT, 0x0008)
+}
+
+/// The bytes of a picture of these ports.
+fn bytes(ports: &[DraftPort]) -> Vec<u8> {
+    Draft::of(ports.to_vec()).bytes()
+}
+
+/// A shape of 256 entries.
+fn shape(granularity_code: u32, start: u64) -> VectorShape {
+    VectorShape { size_code: 0, granularity_code, start }
+}
+
+/// The report's line is this one, and after the number's text the sentence goes on so.
+fn says(picture: &[u8], line: &str, follows: &str) {
+    let text = explain(picture);
+    let number: usize = line.split(' ').nth(1).expect("a refusal has a number").parse().expect("a number");
+    let (first, rest) = NUMBER_TEXTS[number].split_at(1);
+    assert_eq!(text, format!("{line}\n{}{rest}{follows}.\n", first.to_uppercase()));
+}
+
+#[test]
+fn the_texts_are_those_of_the_repository() {
+    let path = concat!(env!("CARGO_MANIFEST_DIR"), "/../tests/number-texts");
+    let file = std::fs::read_to_string(path).expect("tests/number-texts is there");
+    let wanted: Vec<String> = file.lines().take(16).map(str::to_string).collect();
+    let ours: Vec<String> =
+        NUMBER_TEXTS.iter().enumerate().map(|(number, text)| format!("{number} {text}")).collect();
+    assert_eq!(ours, wanted);
+}
+
+#[test]
+fn a_clear_picture() {
+    let text = explain(&bytes(&[root()]));
+    let sentence = "Nothing was found wrong: no ID or address has two holders at one place, \
+                    and no port holds what its parent does not claim.\n";
+    assert_eq!(text, format!("ports 1\nclear\n{sentence}"));
+}
+
+#[test]
+fn lengths_and_headers() {
+    let good = bytes(&[root()]);
+    says(&good[..71], "refused 1", ": it has 71 bytes");
+    says(&good[..1], "refused 1", ": it has 1 byte");
+    says(&[], "refused 1", ": it has 0 bytes");
+    says(&vec![0; 65_537], "refused 1", ": it has more than 65,536");
+    let with = |at: usize, value: u8| {
+        let mut picture = good.clone();
+        picture[at] = value;
+        picture
+    };
+    says(&with(0, 2), "refused 2", ": it is 2");
+    says(&with(1, 1), "refused 2", ": it is 257");
+    says(&with(2, 0), "refused 3", ": it has none");
+    says(&with(2, 65), "refused 3", ": it has 65");
+    says(&with(4, 73), "refused 4", ": the header says 73, and the picture has 72 bytes");
+    says(&with(8, 17), "refused 5", "");
+}
+
+#[test]
+fn ports_that_break_a_rule_of_the_tree() {
+    let above = [root(), DraftPort::silent(UPSTREAM, 0, 0x0100)];
+    let third = |kind, parent| bytes(&[&above[..], &[DraftPort::silent(kind, parent, 0x0110)]].concat());
+    let below_0 = "below port 0, 00:01.0)";
+    let below_1 = "below port 1, 01:00.0, below port 0, 00:01.0)";
+    for (kind, parent, follows) in [
+        (1, 0, format!("switch upstream port, {below_0}, whose parent is a root port with a child already")),
+        (1, 1, format!("switch upstream port, {below_1}, whose parent is a switch upstream port")),
+        (2, 0, format!("switch downstream port, {below_0}, whose parent is a root port")),
+        (2, 255, "switch downstream port, no parent)".to_string()),
+        (2, 9, "switch downstream port, parent 9)".to_string()),
+        (2, 2, "switch downstream port, parent 2)".to_string()),
+        (0, 1, format!("root port, {below_1}")),
+        (7, 255, "unknown kind 7, no parent)".to_string()),
+        (7, 0, format!("unknown kind 7, {below_0}")),
+    ] {
+        says(&third(kind, parent), "refused 6 ports 2", &format!(": port 2 (01:02.0, {follows}"));
+    }
+}
+
+#[test]
+fn a_chain_that_is_too_long() {
+    let mut ports = vec![root()];
+    let mut follows = String::new();
+    for port in 1..=16u8 {
+        let kind = if port % 2 == 1 { UPSTREAM } else { DOWNSTREAM };
+        follows = format!(", below port {}, {:02x}:01.0{follows}", port - 1, port - 1);
+        ports.push(DraftPort::silent(kind, port - 1, (port as u16) << 8 | 8));
+    }
+    says(&bytes(&ports), "refused 7 ports 16", &format!(": port 16 (10:01.0{follows})"));
+}
+
+#[test]
+fn every_cause_of_number_8() {
+    let refused = |port: DraftPort, follows: &str| {
+        says(&bytes(&[port]), "refused 8 ports 0", &format!(": port 0 (00:01.0, a root port){follows}"));
+    };
+    let mut unsupported = root();
+    unsupported.set_enabled(Which::Rid, true);
+    refused(unsupported.clone(), "; its RID vector is enabled but not supported");
+    let mut reserved = root();
+    reserved.support(Which::Rid, 1, 0);
+    refused(reserved.clone(), "; its RID vector has size code 1");
+    reserved.set_enabled(Which::Rid, true);
+    refused(reserved.clone(), "; its RID vector has size code 1 and granularity code 0");
+    let mut coarse = root();
+    coarse.give_vector(Which::Low, shape(5, 0));
+    refused(coarse, "; its MEM Low vector has size code 0 and granularity code 5");
+    let mut low_bits = root();
+    low_bits.memory_base = 0xE001;
+    low_bits.memory_limit = 0xE000;
+    low_bits.prefetchable_base = 0xFFF1;
+    low_bits.prefetchable_limit = 0x0001;
+    let registers = "; it has Memory Base e001 and Limit e000, Prefetchable Memory Base fff1 and Limit 0001";
+    refused(low_bits.clone(), registers);
+    low_bits.set_enabled(Which::High, true);
+    refused(low_bits, &format!("; its MEM High vector is enabled but not supported{registers}"));
+    // each cause: an enabled granularity that is not allowed is one, supported or not
+    unsupported.set_granularity(Which::Rid, 9);
+    let both = "; its RID vector is enabled but not supported; its RID vector has size code 0 and granularity code 9";
+    refused(unsupported, both);
+}
+
+#[test]
+fn every_cause_of_number_9() {
+    let refused = |port: DraftPort, follows: &str| {
+        says(&bytes(&[port]), "refused 9 ports 0", &format!(": port 0 (00:01.0, a root port){follows}"));
+    };
+    let low = "; its MEM Low vector starts at 00800000 and has entries of 16 MiB";
+    let high = "; its MEM High vector starts at 0000000110000000 and has entries of 512 MiB";
+    let rid = "; its RID vector starts at 01:01.0 and has entries of 64 IDs";
+    let ari = "; its RID vector starts at 01:01.0 and has entries of 8 IDs, in a port with ARI";
+    refused(root().vector(Which::Low, shape(4, 8), &[]), low);
+    refused(root().vector(Which::High, shape(1, 17), &[]), high);
+    refused(root().vector(Which::Rid, shape(3, 33), &[]), rid);
+    refused(root().with_ari().vector(Which::Rid, shape(0, 33), &[]), ari);
+    let all = root().vector(Which::Rid, shape(3, 33), &[]).vector(Which::Low, shape(4, 8), &[]);
+    refused(all.vector(Which::High, shape(1, 17), &[]), &format!("{rid}{low}{high}"));
+}
+
+#[test]
+fn vectors_elsewhere() {
+    let mut picture = bytes(&[root()]);
+    picture[16 + 52] = 128;
+    says(&picture, "refused 10 ports 0", ": those of port 0 (00:01.0, a root port) begin at byte 128");
+    let mut picture = bytes(&[root()]);
+    picture.push(0);
+    picture[4] = 73;
+    says(&picture, "refused 10 ports 255", ": the last ones do not, and the picture has 73 bytes");
+}
+
+#[test]
+fn what_the_check_finds() {
+    let own = "port 0 (00:01.0, a root port) claims its own ID 00:01.0 (0008)";
+    says(&bytes(&[root().buses(0, 1)]), "refused 11 id 0008 ports 0 0", &format!(": {own}"));
+    let other = DraftPort::silent(ROOT, NO_PARENT, 0x0010);
+    let holders = "is held by port 0 (00:01.0, a root port) and by port 1 (00:02.0, a root port)";
+    let buses = bytes(&[root().buses(3, 3), other.clone().buses(3, 4)]);
+    says(&buses, "refused 11 id 0300 ports 0 1", &format!(": ID 03:00.0 (0300) {holders}"));
+    let memory = bytes(&[root().memory(0xE05, 0xE05), other.memory(0xE00, 0xE0F)]);
+    let line = "refused 12 addr 00000000e0500000 ports 0 1";
+    says(&memory, line, &format!(": address 00000000e0500000 {holders}"));
+    let child = DraftPort::silent(UPSTREAM, 0, 0x0100);
+    let held = "is held by port 1 (01:00.0, below port 0, 00:01.0), and port 0 does not claim it";
+    let stray = bytes(&[root().buses(1, 1), child.clone().buses(2, 2)]);
+    says(&stray, "refused 13 id 0200 ports 1", &format!(": ID 02:00.0 (0200) {held}"));
+    let stray = bytes(&[root().buses(1, 1), child.memory(0xE05, 0xE05)]);
+    let line = "refused 14 addr 00000000e0500000 ports 1";
+    says(&stray, line, &format!(": address 00000000e0500000 {held}"));
+}
+
+#[test]
+fn own_ids_that_are_not_reached() {
+    for (own_id, written, what) in [
+        (0x0110, "01:02.0", "answers configuration requests for it with Unsupported Request"),
+        (0x0200, "02:00.0", "passes configuration requests for it on as Type 1"),
+    ] {
+        let picture = bytes(&[root().buses(1, 2), DraftPort::silent(UPSTREAM, 0, own_id)]);
+        let follows = format!(": port 1 ({written}, below port 0, 00:01.0), and port 0 {what}");
+        says(&picture, "refused 15 ports 1", &follows);
+    }
+}
+
+#[test]
+fn the_drawing_of_the_page() {
+    let down = |own_id| DraftPort::silent(DOWNSTREAM, 2, own_id).with_memory_space(true);
+    let picture = bytes(&[
+        root().buses(1, 4).memory(0xE00, 0xEFF),
+        DraftPort::silent(ROOT, NO_PARENT, 0x0010),
+        DraftPort::silent(UPSTREAM, 0, 0x0100).buses(2, 4).memory(0xE00, 0xEFF),
+        down(0x0200).buses(3, 3).vector(Which::Low, shape(0, 0xE00), &[0, 255]),
+        down(0x0208).buses(4, 4).with_ari().vector(Which::Rid, shape(0, 0x80), &[7, 8]),
+    ]);
+    let lines = [
+        "-+-00:01.0-[01-04]  port 0, root port; memory e0000000-efffffff",
+        " |  \\-01:00.0-[02-04]  port 2, switch upstream port; memory e0000000-efffffff",
+        " |     +-02:00.0-[03]  port 3, switch downstream port, device port; MEM Low vector 2 of 256 set, from e0000000 by 1 MiB",
+        " |     \\-02:01.0-[04]  port 4, switch downstream port, device port, ARI; RID vector 2 of 256 set, from 04:00.0 by 8 IDs",
+        " \\-00:02.0-[]  port 1, root port, device port; memory space off",
+    ];
+    assert_eq!(tree(&picture), lines.join("\n") + "\n");
+}
+
+#[test]
+fn windows_vectors_and_one_root_port() {
+    let line = |port: DraftPort| tree(&bytes(&[port]));
+    let begin = "---00:01.0-[]  port 0, root port, device port";
+    let high = root().vector(Which::High, shape(7, 0x80), &[]);
+    assert_eq!(
+        line(high),
+        format!(
+            "{begin}; memory space off; MEM High vector 0 of 256 set, from 0000000800000000 by 32768 MiB\n"
+        )
+    );
+    let type_0 = root().prefetchable_type_0(0xD00, 0xD00);
+    assert_eq!(line(type_0), format!("{begin}; prefetchable d0000000-d00fffff\n"));
+    let type_1 = root().prefetchable(0xD00, 0x1000);
+    assert_eq!(line(type_1), format!("{begin}; prefetchable 00000000d0000000-00000001000fffff\n"));
+    assert_eq!(line(root().with_memory_space(true).buses(5, 4)), format!("{begin}\n"));
+    assert!(line(root().buses(0, 5)).starts_with("---00:01.0-[00-05]  port 0"));
+}
+
+#[test]
+fn a_picture_that_does_not_read_is_refused() {
+    assert_eq!(tree(&[]), "refused 1\n");
+    let mut picture = bytes(&[root()]);
+    picture[16 + 52] = 128;
+    assert_eq!(tree(&picture), "refused 10 ports 0\n");
+}
+
+#[test]
+fn pictures_of_all_numbers_occur_and_one_seed_gives_the_same() {
+    let drawn: Vec<Vec<u8>> = pictures(1, 150).collect();
+    for number in 0..=15 {
+        let is_given = |picture: &&Vec<u8>| match Judge::new(picture).check() {
+            Ok(()) => number == 0,
+            Err(refusal) => refusal.number == number,
+        };
+        assert!(drawn.iter().any(|picture| is_given(&picture)), "number {number}");
+    }
+    assert!(pictures(1, 20).eq(drawn.into_iter().take(20)));
+}
+
+/// What the texts of 150 pictures, as many as tests/differential.sh takes, have somewhere.
+const PHRASES: [&str; 33] = [
+    "it has none",
+    "it has more than 65,536.",
+    "the header says",
+    "unknown kind",
+    ", parent ",
+    ", no parent",
+    "whose parent is a root port",
+    "whose parent is a switch upstream port",
+    "whose parent is a switch downstream port",
+    "with a child already",
+    "RID vector is enabled but not supported",
+    "MEM Low vector is enabled but not supported",
+    "MEM High vector is enabled but not supported",
+    "and granularity code",
+    "Prefetchable Memory Base",
+    "RID vector starts at",
+    "MEM Low vector starts at",
+    "MEM High vector starts at",
+    ", in a port with ARI",
+    "begin at byte",
+    "the last ones do not, and",
+    "is held by port",
+    "claims its own ID",
+    "does not claim it",
+    "on as Type 1",
+    "with Unsupported Request",
+    "memory space off",
+    "; prefetchable ",
+    ", device port, ARI; ",
+    "; MEM High vector ",
+    "\n |  ",
+    "\n    ",
+    "-[]  port",
+];
+
+#[test]
+fn every_phrase_occurs() {
+    let texts: String = pictures(1, 150).map(|picture| explain(&picture) + &tree(&picture)).collect();
+    for phrase in PHRASES {
+        assert!(texts.contains(phrase), "{phrase}");
+    }
+    let without_granularity =
+        |part: &str| part.contains("has size code") && !part.contains("granularity code");
+    assert!(texts.split([';', '\n']).any(without_granularity));
+}
