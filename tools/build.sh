@@ -164,3 +164,10 @@ build() {
     exec 9<&-
     return "$status"
 }
+
+# run_built PROGRAM ARGS..: runs a program that is built
+run_built() {
+    local program=$1
+    shift
+    run_x86 "$built/$program" "$@"
+}

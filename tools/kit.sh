@@ -36,13 +36,6 @@ lay_loader() {
     done
 }
 
-# run_built NAME ARGS..: runs a program of target/bin.
-run_built() {
-    local name=$1
-    shift
-    run_x86 "target/bin/$name" "$@"
-}
-
 # kit_cc OUT FILE.. WORDS..: compiles C, or C++, to an x86-64 object by the kit's own clang, which has no headers of its own.
 kit_cc() {
     local tools out=$1

@@ -167,8 +167,7 @@ fn codes_text(which: Which, setting: &Setting) -> String {
     let mut text = String::new();
     if setting.enabled && !setting.supported {
         text += &format!("; its {name} is enabled but not supported");
-    }
-    if !setting.codes_are_good() {
+    } else if !setting.codes_are_good() {
         text += &format!("; its {name} has size code {}", setting.size_code);
         if setting.enabled {
             text += &format!(" and granularity code {}", setting.granularity_code);
