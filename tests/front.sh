@@ -231,27 +231,49 @@ read_only() {
     calls 1
 }
 
+# wait_for FILE: until there is something in it, at most a minute
+wait_for() {
+    local try
+    for ((try = 0; try < 600; try++)); do
+        [ ! -s "$1" ] || return 0
+        sleep 0.1
+    done
+}
+
 two_at_once() {
     fresh 12
     copy report "$one" >"$work/first" 2>&1 &
-    while [ ! -s "$work/kit/calls" ]; do sleep 0.1; done
+    wait_for "$work/kit/calls"
     expect 0 'ports 1/clear/' 'fpb report: another build runs in this checkout; waiting for it to end/' copy report "$one"
     wait $!
     expect 0 '*/fpb report: 1 of [0-9]* proved, being proved: report/*/ports 1/clear/' '' cat "$work/first"
     calls 1
 }
 
+# ended_by SIGNAL: begins a first run, sends the signal to fpb alone once rt runs, and gives fpb's status; a signal of the
+# keyboard is ignored by what a script starts in the background, unless it is a job
+ended_by() {
+    local pid
+    fresh 600
+    set -m
+    env PATH="$work/kit/bin:$PATH" RATTLE_HOME="$kit" "$work/copy/fpb" report "$one" &
+    pid=$!
+    set +m
+    wait_for "$work/kit/child"
+    kill -s "$1" "$pid"
+    wait "$pid" 2>/dev/null
+}
+
 # that whatever rt has started ends with fpb, however fpb is ended, and that the next call builds anew
 ended() {
     local signal try
     for signal in INT TERM HUP KILL; do
-        fresh 600
-        { PATH=$work/kit/bin:$PATH RATTLE_HOME=$kit timeout -s "$signal" 2 "$work/copy/fpb" report "$one"; } >/dev/null 2>&1
-        for try in 1 2 3 4 5 6 7 8 9 10; do
+        expect $((128 + $(kill -l "$signal"))) '' 'fpb report: *fpb report: 1 of [0-9]* proved: ids/' ended_by "$signal"
+        for ((try = 0; try < 50; try++)); do
             kill -0 "$(cat "$work/kit/child")" 2>/dev/null || break
-            sleep 0.5
+            sleep 0.1
         done
-        if [ "$try" -lt 10 ]; then counts ""; else counts "what rt started goes on after fpb was ended by $signal"; fi
+        if [ "$try" -lt 50 ]; then counts ""; else counts "what rt started goes on after fpb was ended by $signal"; fi
     done
     sed -i 's/^sleep .*/sleep 0 \&/' "$work/kit/bin/rt"
     expect 0 'ports 1/clear/' '*proved: report/' copy report "$one"

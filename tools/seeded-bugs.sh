@@ -1,6 +1,7 @@
 #!/usr/bin/env bash
 # seeded-bugs.sh [SEED [PICTURES]]: small wrong edits of the second program, one at a time in a copy, each held against the
-# answers of the proved judge to the same batches. Prints a row for each; the status is 0 only where every edit is found.
+# answers of the proved judge to the same batches, or the texts of the product's programs for the same pictures. Prints a row for
+# each; the status is 0 only where every edit is found.
 set -u
 case "${1:-}" in -h | --help) sed -n '2,/^set /s/^# //p' "$0"; exit ;; esac
 cd "$(dirname "$0")/.." || exit 2
@@ -10,7 +11,7 @@ seed=${1:-1} pictures=${2:-400}
 work=$PWD/target/seeded-bugs
 rm -rf "$work"
 mkdir -p "$work"
-build batch || exit 1
+for program in batch report tree; do build "$program" || exit 1; done
 (cd second && cargo build --release --offline --quiet) || exit 1
 second/target/release/second batch >"$work/hand"
 second/target/release/second generate "$seed" "$pictures" >"$work/random"
@@ -29,21 +30,44 @@ differing() {
     awk 'NR == FNR { wanted[FNR] = $0; next } wanted[FNR] != $0 { n++ } END { print n + 0 }' "$work/$1.judge" "$work/$1.edited"
 }
 
-# bug FILE WORDS OLD NEW
-bug() {
-    local text hand random verdict=no
+# sow FILE OLD NEW: builds the second program with one text of a file changed
+sow() {
+    local text
     bugs=$((bugs + 1))
     rm -rf "$work/copy"
     mkdir "$work/copy"
     cp -r second/Cargo.toml second/Cargo.lock second/src "$work/copy"
     text=$(cat "second/src/$1"; echo .)
-    case $text in *"$3"*) ;; *) echo "no such text in $1: $3"; exit 1 ;; esac
-    text=${text/"$3"/"$4"}
+    case $text in *"$2"*) ;; *) echo "no such text in $1: $2"; exit 1 ;; esac
+    text=${text/"$2"/"$3"}
     printf '%s' "${text%.}" >"$work/copy/src/$1"
     (cd "$work/copy" && CARGO_TARGET_DIR=$work/target cargo build --release --offline --quiet 2>"$work/log") || { cat "$work/log"; exit 1; }
+}
+
+# bug FILE WORDS OLD NEW: one that answers must show
+bug() {
+    local hand random verdict=no
+    sow "$1" "$3" "$4"
     hand=$(differing hand) random=$(differing random)
     if [ "$hand" != 0 ] || [ "$random" != 0 ]; then verdict=yes found=$((found + 1)); fi
     echo "| $1 | $2 | $verdict | $((${hand/stopped/1} + ${random/stopped/1})) | $hand | $random |"
+}
+
+# texts SECOND: the sentence and the drawing of each picture by a second program, one line each
+texts() {
+    local picture
+    for picture in "$work"/pictures/*; do
+        for command in explain tree; do "$1" "$command" <"$picture" 2>&1 | tr '\n' /; echo; done
+    done
+}
+
+# text_bug FILE WORDS OLD NEW: one that texts must show
+text_bug() {
+    local differ
+    sow "$1" "$3" "$4"
+    differ=$(texts "$work/target/release/second" | diff - "$work/texts.judge" | grep -c '^<')
+    [ "$differ" -eq 0 ] || found=$((found + 1))
+    echo "| $1 | $2 | $([ "$differ" -eq 0 ] && echo no || echo yes) | $differ |"
 }
 
 bug picture.rs "the last entry of a vector never applies" '(entry < self.size)' '(entry + 1 < self.size)'
@@ -77,5 +101,26 @@ bug check.rs "number 15 asks for a claim only" '!= Conversion::Type0' '== Conver
 bug judge.rs "IDs cut to 16 bits" 'u16::try_from(target).map_err(|_| Refusal::bare(16))' 'Ok(target as u16)'
 bug judge.rs "starts cut to 8 bits" 'let port = start as usize;' 'let port = start as u8 as usize;'
 bug judge.rs "IDs printed without leading zeros" '{id:04x}' '{id:x}'
+
+second/target/release/second pictures "$seed" 150 "$work/pictures" || exit 1
+for picture in "$work"/pictures/*; do
+    run_built report explain <"$picture" | tr '\n' /; echo
+    run_built tree <"$picture" | tr '\n' /; echo
+done >"$work/texts.judge"
+texts second/target/release/second | cmp -s - "$work/texts.judge" || { echo "the texts differ without an edit"; exit 1; }
+echo
+echo "$(wc -l <"$work/texts.judge") texts of 150 pictures (seed $seed)"
+echo "| file | what is wrong | found | texts that differ |"
+echo "|---|---|---|---|"
+text_bug words.rs "device numbers in decimal" '{:02x}:{:02x}.{}' '{:02x}:{:02}.{}'
+text_bug explain.rs "the two holders turned round" 'named(*first), named(*second)' 'named(*second), named(*first)'
+text_bug tree.rs "the last sibling drawn as one with more below" '!= Some(&port)' '== Some(&port)'
+text_bug tree.rs "the bars of ports above turned round" '[ports_above(picture, parent), vec![parent]]' '[vec![parent], ports_above(picture, parent)]'
+text_bug tree.rs "a window of one MiB left out" 'match base <= last' 'match base + 0xF_FFFF < last'
+text_bug tree.rs "the last entry not counted" '(0..vector.size)' '(0..vector.size - 1)'
+text_bug tree.rs "ARI said of any port" 'if port.ari {' 'if !port.ari {'
+text_bug explain.rs "the root port left out of the tree above" 'Some(Kind::Root) => text,' 'Some(Kind::Root) => String::new(),'
+text_bug explain.rs "a first child called a later one" 'records[..port].iter().any' 'records[..=port].iter().any'
+text_bug explain.rs "codes of a vector that is not supported" '} else if !setting.codes_are_good()' '} if !setting.codes_are_good()'
 echo "$found of $bugs found"
 [ "$found" -eq "$bugs" ]
