@@ -1,6 +1,6 @@
 # shellcheck shell=bash disable=SC2154
-# Sourced by fpb: what its commands share. A command's file begins with its usage and its help as comments, and has one
-# function `run`, which is handed the command's arguments and ends by a status.
+# Sourced by fpb: what its commands share. A command's file begins with its usage and its help as comments, says which programs it
+# asks, for the installation, and has a function `run`, which is handed the command's arguments and ends by a status.
 self=fpb
 
 # say WORDS: a message on standard error

@@ -7,10 +7,12 @@
 #
 # Without FILE, or with `-', the picture is read from standard input.
 # Status: 0 clear; 1 refused; 2 bad usage, or no answer: standard error says why.
+
+# asks: report explain
 run() {
     options --explain "$@"
     take_file ${words[@]+"${words[@]}"}
-    ask report ${chosen:+explain}
+    if [ -z "$chosen" ]; then ask report; else ask explain; fi
     case $answer in
     'ports '*) answered 0 ;;
     'refused '*) answered 1 ;;

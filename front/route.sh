@@ -21,6 +21,7 @@ start_of() {
     [ ${#start} -le 9 ] || start=999999999
 }
 
+# asks: route
 run() {
     options "" "$@"
     set -- ${words[@]+"${words[@]}"}

@@ -9,6 +9,8 @@
 #
 # Without FILE, or with `-', the picture is read from standard input.
 # Status: 0 drawn; 1 refused; 2 bad usage, or no answer: standard error says why.
+
+# asks: tree
 run() {
     options "" "$@"
     take_file ${words[@]+"${words[@]}"}

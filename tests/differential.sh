@@ -32,7 +32,7 @@ rm -rf "$work"
 mkdir -p "$work"
 (cd second && cargo build --release --offline --quiet) || give_up "the second program does not build"
 second=$PWD/second/target/release/second
-for program in batch report tree; do
+for program in batch explain tree; do
     build "$program" || give_up "the $program program is not proved"
 done
 echo "built at $SECONDS s"
@@ -88,7 +88,7 @@ compare_texts() {
     local before=$failed n
     "$second" pictures "$1" "$2" "$work/pictures" || give_up "no pictures of seed $1"
     for ((n = 1; n <= $2; n++)); do
-        compare_text "$work/pictures/$n.picture" explain report explain
+        compare_text "$work/pictures/$n.picture" explain explain
         compare_text "$work/pictures/$n.picture" tree tree
     done
     echo "explain and tree: $((2 * $2 - failed + before)) texts agree, $((failed - before)) differ (at $SECONDS s)"

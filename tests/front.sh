@@ -7,7 +7,7 @@ cd "$(dirname "$0")/.." || exit 2
 root=$PWD
 self=tests/front.sh
 . tools/build.sh
-for program in report route tree; do build "$program" || { echo "0 passed, 1 failed"; exit 1; }; done
+for program in report explain route tree; do build "$program" || { echo "0 passed, 1 failed"; exit 1; }; done
 work=$(mktemp -d)
 chmod 755 "$work"
 trap 'rm -rf "$work"' EXIT

@@ -32,12 +32,9 @@ cd "$(dirname "$(readlink -f "$0")")/.."
 self=install.sh
 . tools/build.sh
 
-# programs: the commands that ask a program of their own name
+# programs: those that the commands say they ask
 programs() {
-    local file
-    for file in front/*.sh; do
-        case $file in front/common.sh | front/help.sh) ;; *) basename "$file" .sh ;; esac
-    done
+    sed -n 's/^# asks: //p' front/*.sh
 }
 
 # lay MODE FILE AT: installs one file below the folder

@@ -11,7 +11,7 @@ seed=${1:-1} pictures=${2:-400}
 work=$PWD/target/seeded-bugs
 rm -rf "$work"
 mkdir -p "$work"
-for program in batch report tree; do build "$program" || exit 1; done
+for program in batch explain tree; do build "$program" || exit 1; done
 (cd second && cargo build --release --offline --quiet) || exit 1
 second/target/release/second batch >"$work/hand"
 second/target/release/second generate "$seed" "$pictures" >"$work/random"
@@ -104,7 +104,7 @@ bug judge.rs "IDs printed without leading zeros" '{id:04x}' '{id:x}'
 
 second/target/release/second pictures "$seed" 150 "$work/pictures" || exit 1
 for picture in "$work"/pictures/*; do
-    run_built report explain <"$picture" | tr '\n' /; echo
+    run_built explain <"$picture" | tr '\n' /; echo
     run_built tree <"$picture" | tr '\n' /; echo
 done >"$work/texts.judge"
 texts second/target/release/second | cmp -s - "$work/texts.judge" || { echo "the texts differ without an edit"; exit 1; }
