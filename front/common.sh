@@ -88,15 +88,20 @@ take_file() {
         [ ! -t 0 ] || say "reading a picture from the terminal"
         exec 3<&0
     else
-        [ -e "$input" ] || unreadable "does not exist"
-        [ -r "$input" ] || unreadable "may not be read: permission denied"
-        { exec 3<"$input"; } 2>/dev/null || unreadable "cannot be opened"
+        { exec 3<"$input"; } 2>/dev/null || unreadable "cannot be opened: $(why_not "$input")"
     fi
     [ ! -d "$input" ] || unreadable "is a directory, and not a picture"
 }
 unreadable() {
     say "$input_name $1"
     exit 2
+}
+
+# why_not FILE: the system's reason why it cannot be opened
+why_not() {
+    local message
+    message=$({ exec 3<"$1"; } 2>&1)
+    echo "${message##*: }"
 }
 
 # has_program NAME: in a checkout, has it built; says why it is not there
@@ -112,29 +117,33 @@ has_program() {
     fi
 }
 
-# run_program NAME ARGS..: an x86-64 program by its own loader, where there is an emulator under that
-run_program() {
+# become NAME ARGS..: this shell becomes an x86-64 program by its own loader, where there is an emulator under that
+become() {
     local base=$programs/x86-64 emulator=$programs/x86-64/qemu-x86_64 name=$1
     shift
     [ -x "$emulator" ] || emulator=
-    ${emulator:+"$emulator"} "$base/ld-linux-x86-64.so.2" --library-path "$base" "$programs/$name" "$@"
+    exec ${emulator:+"$emulator"} "$base/ld-linux-x86-64.so.2" --library-path "$base" "$programs/$name" "$@"
 }
 
-# ask NAME ARGS..: what the program says of the picture, in `answer`; one byte more than a picture may have is read
+# ask NAME ARGS..: what the program says of the picture, in `answer`; one byte more than a picture may have is read. Both that
+# read it and the program end with this shell.
 ask() {
-    local said
+    local reader program signal
     has_program "$1"
-    said=$(
-        head -c 65537 <&3 2>/dev/null | run_program "$@"
-        echo ":${PIPESTATUS[*]}"
-    )
-    answer=${said%:*}
+    exec 4< <(exec head -c 65537 <&3 2>/dev/null)
+    reader=$!
+    exec 5< <(become "$@" <&4 3<&- 4<&-)
+    program=$!
+    exec 3<&- 4<&-
+    for signal in INT TERM HUP; do
+        # shellcheck disable=SC2064 # the processes are known now
+        trap "trap - $signal; kill $reader $program; kill -$signal \$\$" "$signal"
+    done
+    IFS= read -r -d '' answer <&5
     answer=${answer%$'\n'}
-    case ${said##*:} in
-    '0 0') ;;
-    *' 0') unreadable "cannot be read" ;;
-    *) no_answer "$1" ;;
-    esac
+    wait "$program" || no_answer "$1"
+    wait "$reader" || unreadable "cannot be read"
+    trap - INT TERM HUP
 }
 
 # no_answer NAME: ends the command where its program has not said what it must

@@ -25,7 +25,7 @@ start_of() {
 run() {
     options "" "$@"
     set -- ${words[@]+"${words[@]}"}
-    [ $# -ge 3 ] || bad_usage "KIND, START and TARGET are wanted, and $# of them are there"
+    [ $# -ge 3 ] || bad_usage "KIND, START and TARGET are wanted, and $# of the three are given"
     case $1 in
     id | addr | config) ;;
     *) bad_usage "KIND is id, addr or config, and \`$1' is none of them" ;;

@@ -3,7 +3,7 @@
 # kit's own clang, linker and loader do this on either kind of machine, on Arm under the kit's emulator. A compiler of the host
 # compiles them too, and on x86-64 links and runs them. Last line: N passed, M failed.
 set -u
-cd "$(dirname "$0")/.." || exit 2
+cd "$(dirname "$(readlink -f "$0")")/.." || exit 2
 . tools/kit.sh
 work=$(mktemp -d)
 trap 'rm -rf "$work"' EXIT

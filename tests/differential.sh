@@ -6,7 +6,7 @@
 # A difference prints the picture's file, the call and both answers, or a diff of both texts.
 # Last line: N passed, M failed, counting answers, texts and tests.
 set -u
-cd "$(dirname "$0")/.." || exit 2
+cd "$(dirname "$(readlink -f "$0")")/.." || exit 2
 self=tests/differential.sh
 . tools/build.sh
 seed=${1:-1} pictures=${2:-1000}

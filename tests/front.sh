@@ -3,7 +3,7 @@
 # run (by a stand-in for rt, so that no test waits for a proof), and the installed command. Last line: N passed, M failed.
 set -u
 umask 022
-cd "$(dirname "$0")/.." || exit 2
+cd "$(dirname "$(readlink -f "$0")")/.." || exit 2
 root=$PWD
 self=tests/front.sh
 . tools/build.sh
@@ -39,7 +39,7 @@ full_output() { "$@" >/dev/full; }
 as_nobody() {
     local somebody=(setpriv --reuid 65534 --regid 65534 --clear-groups)
     [ "$(id -u)" -eq 0 ] || somebody=()
-    in_folder "$work" env PATH="$work/kit/bin:$PATH" ${somebody[@]+"${somebody[@]}"} "$@"
+    in_folder "$work" env PATH="$work/kit/bin:$PATH" RATTLE_HOME="$kit" ${somebody[@]+"${somebody[@]}"} "$@"
 }
 
 one=samples/one-port.picture shared=samples/shared-granule.picture
@@ -62,8 +62,9 @@ input_and_output() {
     expect 2 '' 'fpb report: standard input is closed/' closed_input ./fpb report
     expect 2 '' 'fpb report: standard input is closed/' closed_input ./fpb report -
     expect 0 'ports 1/clear/' '' closed_input ./fpb report "$one"
-    expect 2 '' 'fpb route: no such.picture does not exist/' ./fpb route id host 0 "no such.picture"
+    expect 2 '' 'fpb route: no such.picture cannot be opened: No such file or directory/' ./fpb route id host 0 "no such.picture"
     expect 2 '' 'fpb report: /proc/self/mem cannot be read/' ./fpb report /proc/self/mem
+    expect 2 '' 'fpb report: tests/c/../none cannot be opened: *' env POSIXLY_CORRECT=1 ./fpb report tests/c/../none
     expect 2 '' 'fpb report: standard output cannot be written/' full_output ./fpb report "$one"
     expect 2 '' 'fpb report: standard output cannot be written/' full_output ./fpb report "$shared"
     expect 2 '' 'fpb tree: standard output cannot be written/' closed_output ./fpb tree "$one"
@@ -125,7 +126,7 @@ targets() {
     expect 2 '' "fpb route: KIND is id, addr or config, and \`mail' *$route_usage" ./fpb route mail host 0 "$one"
     expect 2 '' "fpb route: START 255 is no port: from the host is \`host'$route_usage" ./fpb route id 255 0300 "$one"
     expect 2 '' "fpb route: START is \`host' or *, and \`2x' is neither$route_usage" ./fpb route id 2x 0300 "$one"
-    expect 2 '' "fpb route: KIND, START and TARGET are wanted, and 2 of them are there$route_usage" ./fpb route id host
+    expect 2 '' "fpb route: KIND, START and TARGET are wanted, and 2 of the three are given$route_usage" ./fpb route id host
 }
 
 elsewhere() {
@@ -199,7 +200,9 @@ first_run() {
     local not_built='fpb report: report is not built yet from these sources: proving it and what it rests on, [0-9]* crates; *minutes*/'
     fresh 0
     expect 2 '' 'fpb report: report is not built yet from these sources, and rt, * is not on the PATH/' without_rt "$work/copy/fpb" report "$one"
-    expect 2 '' 'fpb report: nothing.picture does not exist/' copy report nothing.picture
+    expect 2 '' 'fpb report: report is not built yet from these sources, and the Rattle kit is not where rt is, in */kit: RATTLE_HOME *' \
+        env PATH="$work/kit/bin:$PATH" "$work/copy/fpb" report "$one"
+    expect 2 '' 'fpb report: nothing.picture cannot be opened: No such file or directory/' copy report nothing.picture
     calls 0
     expect 0 'ports 1/clear/' "${not_built}fpb report: 1 of [0-9]* proved: ids/fpb report: 2 of [0-9]* proved: report/" copy report "$one"
     calls 1
@@ -209,9 +212,12 @@ first_run() {
     echo >>"$work/copy/crates/ids/src/lib.rt"
     expect 0 'ports 1/clear/' "$not_built*" copy report "$one"
     calls 2
+    rm -r "$work/copy/target/fpb/x86-64"
+    expect 0 'ports 1/clear/' "$not_built*" copy report "$one"
+    calls 3
     touch "$work/kit/refuses"
     echo >>"$work/copy/crates.txt"
-    expect 2 '' "$not_built*fpb report: report is not built; *rt: report NOT PROVED*" copy report "$one"
+    expect 2 '' "$not_built*fpb report: report is not built: rt ended with status 1; *rt: report NOT PROVED*" copy report "$one"
     expect 2 '' "$not_built*" copy report "$one"
 }
 
@@ -227,7 +233,7 @@ read_only() {
     expect 0 'ports 1/clear/' '' as_nobody copy/fpb report one.picture
     chmod -R u+w "$work/copy"
     chmod 0 "$work/one.picture"
-    expect 2 '' 'fpb report: one.picture may not be read: permission denied/' as_nobody copy/fpb report one.picture
+    expect 2 '' 'fpb report: one.picture cannot be opened: Permission denied/' as_nobody copy/fpb report one.picture
     calls 1
 }
 
@@ -250,13 +256,29 @@ two_at_once() {
     calls 1
 }
 
+# that a build ends when nobody reads what it says, and goes on where the terminal stops jobs that write to it
+listened() {
+    fresh 600
+    {
+        timeout 60 env PATH="$work/kit/bin:$PATH" RATTLE_HOME="$kit" "$work/copy/fpb" report "$one" 2>&1 >/dev/null
+        echo $? >"$work/status"
+    } | head -n 1 >/dev/null
+    counts "$([ "$(cat "$work/status")" -ne 124 ] || echo "a build goes on though nobody listens")"
+    command -v script >/dev/null || return
+    fresh 0
+    expect 0 '*proved: report*clear*' '' timeout 60 env PATH="$work/kit/bin:$PATH" RATTLE_HOME="$kit" \
+        script -qec "stty tostop; '$work/copy/fpb' report $one" /dev/null
+}
+
 # ended_by SIGNAL: begins a first run, sends the signal to fpb alone once rt runs, and gives fpb's status; a signal of the
 # keyboard is ignored by what a script starts in the background, unless it is a job
 ended_by() {
     local pid
     fresh 600
+    rm -rf "$work/temporary"
+    mkdir "$work/temporary"
     set -m
-    env PATH="$work/kit/bin:$PATH" RATTLE_HOME="$kit" "$work/copy/fpb" report "$one" &
+    env PATH="$work/kit/bin:$PATH" RATTLE_HOME="$kit" TMPDIR="$work/temporary" "$work/copy/fpb" report "$one" &
     pid=$!
     set +m
     wait_for "$work/kit/child"
@@ -270,13 +292,40 @@ ended() {
     for signal in INT TERM HUP KILL; do
         expect $((128 + $(kill -l "$signal"))) '' 'fpb report: *fpb report: 1 of [0-9]* proved: ids/' ended_by "$signal"
         for ((try = 0; try < 50; try++)); do
-            kill -0 "$(cat "$work/kit/child")" 2>/dev/null || break
+            lives "$(cat "$work/kit/child")" || [ -n "$(ls "$work/temporary")" ] || break
             sleep 0.1
         done
-        if [ "$try" -lt 50 ]; then counts ""; else counts "what rt started goes on after fpb was ended by $signal"; fi
+        if [ "$try" -lt 50 ]; then counts ""; else counts "what rt started, or its files, stay after fpb was ended by $signal"; fi
     done
+    expect 2 '' 'fpb report: *fpb report: 1 of [0-9]* proved: ids/' ended_by QUIT
     sed -i 's/^sleep .*/sleep 0 \&/' "$work/kit/bin/rt"
     expect 0 'ports 1/clear/' '*proved: report/' copy report "$one"
+}
+
+# children PID: the processes that it has started; lives PID: whether a process still runs
+children() { awk -v parent="$1" '$4 == parent { printf "%s ", $1 }' /proc/[0-9]*/stat 2>/dev/null; }
+lives() { [ -r "/proc/$1/stat" ] && [ "$(awk '{ print $3 }' "/proc/$1/stat")" != Z ]; }
+
+# that what waits for the picture ends with fpb, too
+waiting() {
+    local pid try left
+    mkfifo "$work/fifo"
+    exec 8<>"$work/fifo"
+    ./fpb report "$work/fifo" >/dev/null 2>&1 8<&- &
+    pid=$!
+    for ((try = 0; try < 100; try++)); do
+        [ -z "$(children "$pid")" ] || break
+        sleep 0.1
+    done
+    sleep 1
+    read -ra left <<<"$(children "$pid")"
+    kill -TERM "$pid"
+    wait "$pid" 2>/dev/null
+    expect 143 '' '' bash -c "exit $?"
+    sleep 0.5
+    counts "$([ ${#left[@]} -eq 2 ] || echo "fpb has ${#left[@]} children where it waits for a picture, and not 2")"
+    counts "$(for pid in "${left[@]}"; do lives "$pid" && echo "process $pid goes on after fpb was ended"; done)"
+    exec 8<&-
 }
 
 installed() {
@@ -286,6 +335,11 @@ installed() {
     expect 2 '' 'install.sh: one PREFIX is wanted*' tools/install.sh --prefix
     expect 2 '' 'install.sh: with DESTDIR, PREFIX must begin with /, *' env DESTDIR="$work/stage" tools/install.sh usr
     expect 2 '' 'install.sh: nothing can be written to /proc/fpb/' tools/install.sh /proc/fpb
+    mkdir "$work/odd"
+    : >"$work/odd/bin"
+    expect 2 '' "*install.sh: $work/odd/bin/fpb cannot be written; *" tools/install.sh "$work/odd"
+    expect 0 "install.sh: fpb * is installed below $work/relative/usr/" '*' in_folder "$work" env DESTDIR=relative "$root/tools/install.sh" /usr
+    expect 0 'ports 1/clear/' '' "$work/relative/usr/bin/fpb" report "$one"
     expect 0 "install.sh: fpb * is installed below $work/stage/usr/" '*' env DESTDIR="$work/stage" tools/install.sh /usr
     mv "$work/stage/usr" "$work/stage/moved"
     bin=$work/stage/moved/bin/fpb
@@ -325,7 +379,9 @@ man_examples
 first_run
 read_only
 two_at_once
+listened
 ended
+waiting
 installed
 echo "$passed passed, $failed failed"
 [ "$failed" -eq 0 ]

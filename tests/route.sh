@@ -2,7 +2,7 @@
 # `fpb route' on the cases of tests/route.cases, one to a line: SAMPLE KIND START TARGET => STATUS what it prints, with a slash for
 # each line end. Last line: N passed, M failed.
 set -u
-cd "$(dirname "$0")/.." || exit 2
+cd "$(dirname "$(readlink -f "$0")")/.." || exit 2
 passed=0 failed=0
 while IFS= read -r line; do
     read -r sample kind start target <<<"${line%% => *}"

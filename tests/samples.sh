@@ -2,7 +2,7 @@
 # Every sample by `fpb report', `fpb report --explain' and `fpb tree': what is printed is in NAME.report, NAME.explain and, for a
 # picture that reads, NAME.tree; the sentence begins as tests/number-texts has it. Last line: N passed, M failed.
 set -u
-cd "$(dirname "$0")/.." || exit 2
+cd "$(dirname "$(readlink -f "$0")")/.." || exit 2
 passed=0 failed=0
 
 # prints STATUS FILE COMMAND..: one test, that a command ends so and prints what the file has

@@ -7,7 +7,7 @@ case "$*" in
     -h | --help) sed -n '2,/^set /s/^# //p' "$0"; exit ;;
     *) echo "usage: bench.sh [--no-counts]" >&2; exit 2 ;;
 esac
-cd "$(dirname "$0")/.."
+cd "$(dirname "$(readlink -f "$0")")/.."
 . tools/kit.sh
 machine=$(uname -m)
 home=$(kit_home)

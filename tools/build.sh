@@ -17,7 +17,7 @@ fingerprint() {
 
 # is_built NAME FINGERPRINT: whether it is made from these sources
 is_built() {
-    [ -f "$built/$1" ] && [ -f "$built/$1.made-from" ] && [ "$(cat "$built/$1.made-from")" = "$2" ]
+    [ -f "$built/$1" ] && has_loader "$built/x86-64" && [ -f "$built/$1.made-from" ] && [ "$(cat "$built/$1.made-from")" = "$2" ]
 }
 
 # needed_by CRATE: how many crates of this repository are proved for it, itself among them
@@ -40,33 +40,40 @@ needed_by() {
         }' crates.txt
 }
 
-# ends_with PID GROUP: ends the process group once the process is gone, however it went
+# ends_with PID GROUP FOLDER: ends the process group and removes the folder once the process is gone, however it went
 ends_with() {
-    while kill -0 "$1" 2>/dev/null; do sleep 1; done
+    trap '' TERM
+    while kill -0 "$1"; do sleep 1; done
     kill -TERM -- "-$2"
+    sleep 1
+    rm -rf "$3"
 }
 
-# attended COMMAND..: runs it in a process group of its own, which ends when this shell does; gives its status
+# attended COMMAND..: runs it in a process group and with a temporary folder of its own, which both end when this shell does, and
+# gives its status; it may write to a terminal of which this shell is in the foreground
 attended() {
-    local group status signal
+    local folder group status signal
+    folder=$(mktemp -d) && chmod 711 "$folder" || return 1
     set -m
     (
         group=$BASHPID
-        ends_with $$ "$group" >/dev/null 2>&1 9<&- &
-        "$@" </dev/null
+        ends_with $$ "$group" "$folder" >/dev/null 2>&1 9<&- &
+        trap '' TTOU
+        TMPDIR=$folder "$@" </dev/null
         status=$?
-        kill $! 2>/dev/null
+        kill -KILL $!
         exit "$status"
     ) &
     group=$!
     set +m
-    for signal in INT TERM HUP; do
-        # shellcheck disable=SC2064 # the group is known now
-        trap "trap - $signal; kill -TERM -- -$group; wait $group; kill -$signal \$\$" "$signal"
+    for signal in INT TERM HUP QUIT; do
+        # shellcheck disable=SC2064 # the group and the folder are known now
+        trap "trap - $signal; kill -TERM -- -$group; wait $group; rm -rf '$folder'; kill -$signal \$\$; exit 2" "$signal"
     done
     wait "$group"
     status=$?
-    trap - INT TERM HUP
+    trap - INT TERM HUP QUIT
+    rm -rf "$folder"
     return "$status"
 }
 
@@ -79,10 +86,16 @@ under_way() {
     done
 }
 
+# tell WORDS: says how far a build is; ends the build where nobody listens any more
+tell() {
+    echo "$self: $1" >&2 || kill -TERM 0
+}
+
 # progress COUNT: passes on what rt prints; says on standard error which crate is proved, n of COUNT, and every 10 seconds
 # without such news what is being proved
 progress() {
     local count=$1 n=0 proved=' ' line part='' name
+    trap '' PIPE
     while :; do
         if IFS= read -r -t 10 line; then
             line=$part$line part=''
@@ -90,57 +103,81 @@ progress() {
             [[ $line =~ ^rt:\ ([a-z]+)\ proved\ \((unchanged)? ]] || continue
             name=${BASH_REMATCH[1]} n=$((n + 1))
             proved="$proved$name "
-            [ -n "${BASH_REMATCH[2]}" ] || echo "$self: $n of $count proved: $name" >&2
+            [ -n "${BASH_REMATCH[2]}" ] || tell "$n of $count proved: $name"
         elif [ $? -gt 128 ]; then
             part=$part$line
-            echo "$self: $n of $count proved, being proved:$(under_way "$proved")" >&2
+            tell "$n of $count proved, being proved:$(under_way "$proved")"
         else
             return 0
         fi
     done
 }
 
-# proving CRATE COMMAND..: runs rt, shows its progress, and keeps what it prints for the case that it fails
-proving() {
-    local count
-    count=$(needed_by "$1")
-    shift
+# proved CRATE: has rt prove it and what it rests on, with progress, and keeps what rt prints
+proved() {
     : >"$built/began"
     set -o pipefail
-    "$@" 2>&1 | progress "$count" >"$built/log"
+    rt check "$1" 2>&1 | progress "$(needed_by "$1")" >"$built/log"
+}
+
+# archived CRATE: has rt make the archive of a proved library, and keeps what rt prints
+archived() {
+    rt staticlib "$1" >"$built/log" 2>&1
 }
 
 # one_at_a_time: waits until no other build runs in this checkout, and keeps others from it until descriptor 9 is closed
 one_at_a_time() {
     exec 9<.
-    flock -n 9 && return
-    echo "$self: another build runs in this checkout; waiting for it to end" >&2
-    attended flock 9
+    flock -n 9
+    case $? in
+    0) ;;
+    1)
+        echo "$self: another build runs in this checkout; waiting for it to end" >&2
+        attended flock 9
+        ;;
+    *)
+        echo "$self: flock, of util-linux, does not lock this checkout for a build" >&2
+        return 1
+        ;;
+    esac
 }
 
 # can_build WHAT: whether the kit and a folder to write to are there; says what is missing
 can_build() {
+    local missing=''
     if ! command -v rt >/dev/null; then
-        echo "$self: $1 is not built yet from these sources, and rt, the command of the Rattle kit that builds it, is not on the PATH" >&2
+        missing="rt, the command of the Rattle kit that builds it, is not on the PATH"
+    elif ! has_loader "$(kit_tools)/lib"; then
+        missing="the Rattle kit is not where rt is, in $(kit_home): RATTLE_HOME can name its folder"
     elif ! mkdir -p "$built" 2>/dev/null || ! [ -w "$built" ]; then
-        echo "$self: $1 is not built yet from these sources, and nothing can be written to $PWD: build it in a copy that can be" >&2
-    else
-        return 0
+        missing="nothing can be written to $PWD: build it in a copy that can be"
     fi
+    [ -n "$missing" ] || return 0
+    echo "$self: $1 is not built yet from these sources, and $missing" >&2
     return 1
+}
+
+# rt_failed WHAT STATUS: says that rt has not made it, and what it said last
+rt_failed() {
+    echo "$self: $1 is not built: rt ended with status $2; $PWD/$built/log has all that it said, last:" >&2
+    tail -n 5 "$built/log" >&2
 }
 
 # make_one PROGRAM|ARCHIVE.a: has rt prove and compile it, and puts it where built things stand
 make_one() {
     local crate=${1%.a} from=target/bin/$1
     echo "$self: $1 is not built yet from these sources: proving it and what it rests on, $(needed_by "$crate") crates;" \
-        "the first time this takes $build_time" >&2
-    attended proving "$crate" rt check "$crate" || return 1
+        "if none is proved yet, this takes $build_time" >&2
+    attended proved "$crate" || { rt_failed "$1" $?; return 1; }
     if [ "$1" != "$crate" ]; then
-        attended proving "$crate" rt staticlib "$crate" || return 1
+        echo "$self: making the archive of $crate, less than a minute" >&2
+        attended archived "$crate" || { rt_failed "$1" $?; return 1; }
         from=target/staticlib/lib$1
     fi
-    put "$from" "$built/$1"
+    if ! put "$from" "$built/$1" || ! lay_loader "$built/x86-64"; then
+        echo "$self: $1 is proved, but cannot be put into $PWD/$built" >&2
+        return 1
+    fi
 }
 
 # build PROGRAM|ARCHIVE.a: has it built from the sources as they are now; asks rt only where they have changed
@@ -153,13 +190,7 @@ build() {
     now=$(fingerprint)
     if ! is_built "$1" "$now"; then
         rm -f "$built/$1.made-from"
-        if make_one "$1" && lay_loader "$built/x86-64"; then
-            printf '%s\n' "$now" >"$built/$1.made-from"
-        else
-            echo "$self: $1 is not built; what rt said last ($built/log has all of it):" >&2
-            tail -n 5 "$built/log" >&2
-            status=1
-        fi
+        make_one "$1" && printf '%s\n' "$now" >"$built/$1.made-from" || status=1
     fi
     exec 9<&-
     return "$status"

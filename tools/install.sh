@@ -5,7 +5,7 @@
 #   lib, include                 libfiswalend.a, pkgconfig/fiswalend.pc and fiswalend.h, for C on x86-64 Linux
 #   share/man                    fpb(1) and fiswalend(3)
 # Installed files may be moved together. Status: 0 installed; 1 not proved; 2 bad usage, or a folder that cannot be written to.
-set -eu
+set -eu +o posix
 umask 022
 if [ "${1:-}" = -h ] || [ "${1:-}" = --help ]; then
     sed -n '2,/^[^#]/s/^# \{0,1\}//p' "$0"
@@ -27,6 +27,7 @@ if [ "${prefix#/}" = "$prefix" ]; then
     prefix=$PWD/$prefix
 fi
 to=${DESTDIR:-}$prefix
+[ "${to#/}" != "$to" ] || to=$PWD/$to
 if ! mkdir -p "$to" 2>/dev/null || ! [ -w "$to" ]; then cannot "nothing can be written to $to"; fi
 cd "$(dirname "$(readlink -f "$0")")/.."
 self=install.sh
@@ -39,12 +40,12 @@ programs() {
 
 # lay MODE FILE AT: installs one file below the folder
 lay() {
-    install -D -m "$1" "$2" "$to/$3"
+    install -D -m "$1" "$2" "$to/$3" || cannot "$to/$3 cannot be written; what was installed before it stays"
 }
 
 for program in $(programs) fiswalend.a; do build "$program" || exit 1; done
 for program in $(programs); do lay 755 "$built/$program" "libexec/fiswalend/$program"; done
-for file in "$built"/x86-64/*; do lay 755 "$file" "libexec/fiswalend/x86-64/${file##*/}"; done
+for file in "$built"/x86-64/*; do lay "$(stat -c %a "$file")" "$file" "libexec/fiswalend/x86-64/${file##*/}"; done
 for file in front/*.sh; do lay 644 "$file" "libexec/fiswalend/$file"; done
 lay 755 fpb bin/fpb
 lay 644 "$built/fiswalend.a" lib/libfiswalend.a
@@ -64,4 +65,4 @@ Version: ${version#fpb }
 Cflags: -I\${includedir}
 Libs: -L\${libdir} -lfiswalend
 PC
-echo "install.sh: fpb ${version#fpb } is installed below $to"
+echo "install.sh: fpb ${version#fpb } is installed below $to" || cannot "it is installed, but standard output cannot be written"

@@ -27,13 +27,20 @@ put() {
     cp -L "$1" "$2.new" && mv "$2.new" "$2"
 }
 
-# lay_loader FOLDER: copies what runs an x86-64 program, so that it needs the kit no more: loader, C library, emulator.
+# has_loader FOLDER: whether what runs an x86-64 program is there: the loader, and the C library.
+has_loader() {
+    [ -f "$1/ld-linux-x86-64.so.2" ] && [ -f "$1/libc.so.6" ]
+}
+
+# lay_loader FOLDER: copies what runs an x86-64 program, so that it needs the kit no more: loader, C library, and the emulator where
+# the kit has one.
 lay_loader() {
     local tools file
     tools=$(kit_tools) && mkdir -p "$1" || return 1
     for file in lib/ld-linux-x86-64.so.2 lib/libc.so.6 bin/qemu-x86_64 qemu-copyright; do
         [ ! -e "$tools/$file" ] || put "$tools/$file" "$1/${file##*/}" || return 1
     done
+    has_loader "$1"
 }
 
 # kit_cc OUT FILE.. WORDS..: compiles C, or C++, to an x86-64 object by the kit's own clang, which has no headers of its own.

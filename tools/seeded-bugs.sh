@@ -4,7 +4,7 @@
 # each; the status is 0 only where every edit is found.
 set -u
 case "${1:-}" in -h | --help) sed -n '2,/^set /s/^# //p' "$0"; exit ;; esac
-cd "$(dirname "$0")/.." || exit 2
+cd "$(dirname "$(readlink -f "$0")")/.." || exit 2
 self=seeded-bugs.sh
 . tools/build.sh
 seed=${1:-1} pictures=${2:-400}
