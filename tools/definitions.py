@@ -1,3 +1,4 @@
+#!/usr/bin/env python3
 """The definitions of crates/*/specs, the types and contracts of crates/*/src, and what each of them cites, for tools/believed.py.
 
 A word that is spelled as a definition in scope counts as citing it, though it may be a variable there: nothing cited is missed.
