@@ -313,12 +313,11 @@ waiting() {
     exec 8<>"$work/fifo"
     ./fpb report "$work/fifo" >/dev/null 2>&1 8<&- &
     pid=$!
-    for ((try = 0; try < 100; try++)); do
-        [ -z "$(children "$pid")" ] || break
+    for ((try = 0; try < 300; try++)); do
+        read -ra left <<<"$(children "$pid")"
+        [ ${#left[@]} -lt 2 ] || break
         sleep 0.1
     done
-    sleep 1
-    read -ra left <<<"$(children "$pid")"
     kill -TERM "$pid"
     wait "$pid" 2>/dev/null
     expect 143 '' '' bash -c "exit $?"
