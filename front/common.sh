@@ -137,7 +137,7 @@ ask() {
     exec 3<&- 4<&-
     for signal in INT TERM HUP; do
         # shellcheck disable=SC2064 # the processes are known now
-        trap "trap - $signal; kill $reader $program; kill -$signal \$\$" "$signal"
+        trap "trap - $signal; kill $reader $program 2>/dev/null; kill -$signal \$\$" "$signal"
     done
     IFS= read -r -d '' answer <&5
     answer=${answer%$'\n'}

@@ -10,12 +10,14 @@
 
 # asks: report explain
 run() {
+    local program=report
     options --explain "$@"
     take_file ${words[@]+"${words[@]}"}
-    if [ -z "$chosen" ]; then ask report; else ask explain; fi
+    [ -z "$chosen" ] || program=explain
+    ask "$program"
     case $answer in
-    'ports '*) answered 0 ;;
+    'ports '*$'\nclear' | 'ports '*$'\nclear\n'*) answered 0 ;;
     'refused '*) answered 1 ;;
-    *) no_answer report ;;
+    *) no_answer "$program" ;;
     esac
 }

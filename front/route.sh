@@ -36,7 +36,7 @@ run() {
     ask route "$1" "$start" "$target"
     case $answer in
     'end unsupported '* | 'end doubled '* | 'refused '*) answered 1 ;;
-    'end '*) answered 0 ;;
+    'end host'* | 'end device '* | 'end function '*) answered 0 ;;
     *) no_answer route ;;
     esac
 }

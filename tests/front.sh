@@ -308,7 +308,7 @@ lives() { [ -r "/proc/$1/stat" ] && [ "$(awk '{ print $3 }' "/proc/$1/stat")" !=
 
 # that what waits for the picture ends with fpb, too
 waiting() {
-    local pid try left
+    local pid try left status
     mkfifo "$work/fifo"
     exec 8<>"$work/fifo"
     ./fpb report "$work/fifo" >/dev/null 2>&1 8<&- &
@@ -320,11 +320,27 @@ waiting() {
     done
     kill -TERM "$pid"
     wait "$pid" 2>/dev/null
-    expect 143 '' '' bash -c "exit $?"
+    status=$?
+    counts "$([ "$status" -eq 143 ] || echo "fpb ended by TERM has the status $status")"
     sleep 0.5
     counts "$([ ${#left[@]} -eq 2 ] || echo "fpb has ${#left[@]} children where it waits for a picture, and not 2")"
     counts "$(for pid in "${left[@]}"; do lives "$pid" && echo "process $pid goes on after fpb was ended"; done)"
     exec 8<&-
+}
+
+# half_answers FPB EMULATOR: that only a whole answer has the status 0, by a stand-in for what runs the programs
+half_answers() {
+    local line
+    for line in 'ports 1' 'ports 1\nclea' 'ports 1\nclearly' ' clear' 'end' ''; do
+        rm -f "$2"
+        printf '#!/bin/sh\ncat >/dev/null\nprintf "%s"\n' "$line" >"$2"
+        chmod +x "$2"
+        expect 2 '' 'fpb report: the program report did not answer/' "$1" report "$one"
+        expect 2 '' 'fpb report: the program explain did not answer/' "$1" report --explain "$one"
+        expect 2 '' 'fpb route: the program route did not answer/' "$1" route id host 0300 "$one"
+        expect 2 '' 'fpb tree: the program tree did not answer/' "$1" tree "$one"
+    done
+    rm "$2"
 }
 
 installed() {
@@ -355,6 +371,7 @@ installed() {
             env PKG_CONFIG_PATH="$work/stage/moved/lib/pkgconfig" pkg-config --cflags --libs fiswalend
     fi
     for page in man1/fpb.1 man3/fiswalend.3; do expect 0 '.TH *' '' grep -m 1 '^\.TH ' "$work/stage/moved/share/man/$page"; done
+    half_answers "$bin" "$work/stage/moved/libexec/fiswalend/x86-64/qemu-x86_64"
     echo nonsense >"$work/stage/moved/libexec/fiswalend/tree"
     expect 2 '' '*fpb tree: the program tree did not answer/' "$bin" tree "$one"
     rm "$work/stage/moved/libexec/fiswalend/tree"
