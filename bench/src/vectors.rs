@@ -40,10 +40,30 @@ pub fn hit(v: &[u8], g: Settings, t: u64) -> bool {
 pub fn next_entry(v: &[u8], want: bool, from: u64, size: u64) -> Found {
     let mut i = from;
     while i < size {
-        if is_set(v, i) == want {
-            return Found::At(i);
+        let rest = wanted(v, want, i / 64) >> (i % 64);
+        if rest != 0 {
+            let k = rest.trailing_zeros() as u64;
+            if size - i <= k {
+                return Found::Nothing;
+            }
+            return Found::At(i + k);
         }
-        i += 1;
+        let step = 64 - i % 64;
+        if size - i <= step {
+            return Found::Nothing;
+        }
+        i += step;
     }
     Found::Nothing
+}
+
+// Entries 64 j to 64 j + 63, which are eight bytes, as the binary digits of a number, the first entry lowest: 1 for one
+// that is as wanted.
+fn wanted(v: &[u8], want: bool, j: u64) -> u64 {
+    let set = crate::lent::u64_at(v, (8 * j) as usize);
+    if want {
+        set
+    } else {
+        !set
+    }
 }

@@ -2,7 +2,8 @@
 // set, and the next entry that is.
 use least::Found;
 ghost use mathlib.Core.Path.{_≡_};
-ghost use Prim.Native.Nat.{_<_};
+ghost use Prim.Native.Nat.{ℕ, _+_, _*_, _/_, _%_, _^_, _≤_, _<_};
+ghost use lib.Dec.{eqb};
 ghost use Rattle.least.specs.Least.{firstIn};
 ghost use Rattle.vectors.specs.Vectors.{entryOf, isSet, entryIs, hits};
 
@@ -47,8 +48,45 @@ pub fn hit(v: &[u8], g: Settings, t: u64) -> bool
     }
 }
 
-// The next entry from `from` on, below the size, that is set, or, where that is wanted, clear.
+// The next entry from `from` on, below the size, that is set, or, where that is wanted, clear. Eight bytes that hold none
+// such are stepped over at once.
 pub fn next_entry(v: &[u8], want: bool, from: u64, size: u64) -> Found
+    ensures { λ r. ⌜ r ≡ firstIn (entryIs (now (v .entry)) want) from size ⌝ }
+{
+    let mut i = from;
+    while i < size {
+        if v.len() / 8 <= (i / 64) as usize {
+            return entry_by_entry(v, want, i, size);
+        }
+        let rest = wanted(v, want, i / 64) >> (i % 64);
+        if rest != 0 {
+            let k = u64::trailing_zeros(rest) as u64;
+            if size - i <= k {
+                return Found::Nothing;
+            }
+            return Found::At(i + k);
+        }
+        let step = 64 - i % 64;
+        if size - i <= step {
+            return Found::Nothing;
+        }
+        i += step;
+    }
+    Found::Nothing
+}
+
+// Entries 64 j to 64 j + 63, which are eight bytes, as the binary digits of a number, the first entry lowest: 1 for one
+// that is as wanted.
+fn wanted(v: &[u8], want: bool, j: u64) -> u64
+    requires { do ⌜ 8 * j + 8 ≤ (← ⟦v.len()⟧) ⌝ }
+    ensures { λ r. ⌜ ((k : ℕ) → k < 64 → eqb (r / 2 ^ k % 2) 1 ≡ entryIs (now (v .entry)) want (64 * j + k)) ⌝ }
+{
+    let set = lent::whole64(v, (8 * j) as usize);
+    if want { set } else { !set }
+}
+
+// The same one entry at a time, for where fewer than eight bytes are left.
+fn entry_by_entry(v: &[u8], want: bool, from: u64, size: u64) -> Found
     ensures { λ r. ⌜ r ≡ firstIn (entryIs (now (v .entry)) want) from size ⌝ }
 {
     let mut i = from;

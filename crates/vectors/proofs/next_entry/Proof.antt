@@ -1,10 +1,12 @@
 -- The loop has found no entry as wanted from `from` on and below `i`.
-use Prim.Native.Nat.{_≤_, _-_}
+use Prim.Native.Nat.{_-_, _/_, _%_, _^_, _≤_}
+use mathlib.Core.Path.{_∙_}
 use native.Mathlib.Nat.{le-refl}
 use native.Mathlib.Omega.{arith}
-use borrow.Author.Needs.{needs}
-use Rattle.least.proofs.Laws.{NoneIn, none-empty, none-more, none-part, at-is, none-is}
+use lib.Count.{trailing-le}
+use Rattle.least.proofs.Laws.{NoneIn, none-empty, none-join, none-part, at-is, none-is, first-above}
 use Rattle.vectors.specs.Vectors.{entryIs}
+use Rattle.vectors.proofs.Digits.{rest-none, rest-least}
 use Rattle.vectors.proofs.next_entry.Statement.{statement}
 use Rattle.vectors.proofs.next_entry.Tie as tie
 
@@ -18,23 +20,38 @@ loop-holds : tie.Need-loop-holds Inv-loop μ-loop
 loop-holds c = (le-refl _, none-empty (le-refl _))
 
 returns : tie.Need-returns Inv-loop μ-loop
-unfolding entryIs
 returns c =
     let came = c .before .before .before .loop .inv in
-    at-is
-    (record {
-      from = came .0;
-      below = omega arith;
-      holds = rw (← c .before .is-set .ensures) (c .if1 .taken);
-      first = came .1;
-    })
+    c .entry-by-entry .ensures ∙ first-above _ (came .0) (came .1)
 
-loop-again : tie.Need-loop-again Inv-loop μ-loop
-unfolding entryIs
-loop-again c = (omega arith, none-more (c .before .before .before .loop .inv .1) (rw (← c .before .is-set .ensures) (c .if1 .left)))
+cast-k : tie.Need-cast-k Inv-loop μ-loop
+cast-k c = omega (arith, trailing-le 64 (c .before .wanted .result / 2 ^ (c .before .before .before .before .loop .i % 64)))
 
 returns-2 : tie.Need-returns-2 Inv-loop μ-loop
-returns-2 c = none-is (none-part (le-refl _) (c .loop-test .left) (c .before .loop .inv .1))
+returns-2 c =
+    let at = c .before .before .before .before .before .loop in
+    let found = rest-least _ (at .i) (omega arith) (c .before .before .wanted .ensures) (omega arith) in
+    none-is (none-part (le-refl _) (omega arith) (none-join (at .inv .1) (found .first)))
+
+returns-3 : tie.Need-returns-3 Inv-loop μ-loop
+returns-3 c =
+    let at = c .before .before .before .before .before .loop in
+    let found = rest-least _ (at .i) (omega arith) (c .before .before .wanted .ensures) (omega arith) in
+    at-is (record { from = omega arith; below = omega arith; holds = found .holds; first = none-join (at .inv .1) (found .first) })
+
+returns-4 : tie.Need-returns-4 Inv-loop μ-loop
+returns-4 c =
+    let at = c .before .before .before .before .before .loop in
+    let none = rest-none _ (at .i) (omega arith) (c .before .before .wanted .ensures) (c .before .if2 .left) in
+    none-is (none-part (le-refl _) (omega arith) (none-join (at .inv .1) none))
+
+loop-again : tie.Need-loop-again Inv-loop μ-loop
+loop-again c =
+    let at = c .before .before .before .before .before .loop in
+    (omega arith, none-join (at .inv .1) (rest-none _ (at .i) (omega arith) (c .before .before .wanted .ensures) (c .before .if2 .left)))
+
+returns-5 : tie.Need-returns-5 Inv-loop μ-loop
+returns-5 c = none-is (none-part (le-refl _) (c .loop-test .left) (c .before .loop .inv .1))
 
 pub next-entry-spec : {M : Type 1} → statement M
 next-entry-spec =
@@ -43,9 +60,19 @@ next-entry-spec =
     Inv-loop
     μ-loop
     loop-holds
-    (λ c κs. search needs)
+    (λ c κs. tt)
     returns
+    (λ c κs. omega arith)
+    (λ c. omega arith)
+    cast-k
+    (λ c. omega arith)
+    returns-2
+    (λ c. omega arith)
+    returns-3
+    (λ c. omega arith)
+    (λ c. omega arith)
+    returns-4
     (λ c. omega arith)
     (λ c. omega arith)
     loop-again
-    returns-2)
+    returns-5)
