@@ -12,35 +12,18 @@ pub fn u8_at(s: &[u8], i: usize) -> u8 {
 
 // The two bytes from i on.
 pub fn u16_at(s: &[u8], i: usize) -> u16 {
+    if i + 2 <= s.len() {
+        return u16::from_le_bytes(s[i..i + 2].try_into().unwrap());
+    }
     u8_at(s, i) as u16 + 256 * (u8_at(s, i + 1) as u16)
 }
 
 // The four bytes from i on.
 pub fn u32_at(s: &[u8], i: usize) -> u32 {
-    u16_at(s, i) as u32 + 65536 * (u16_at(s, i + 2) as u32)
-}
-
-// The eight bytes from i on: one read in the machine where all of them are there.
-pub fn u64_at(s: &[u8], i: usize) -> u64 {
-    if s.len() < i + 8 {
-        return joined(u32_at(s, i), u32_at(s, i + 4));
+    if i + 4 <= s.len() {
+        return u32::from_le_bytes(s[i..i + 4].try_into().unwrap());
     }
-    joined(whole32(s, i), whole32(s, i + 4))
-}
-
-// Eight bytes of two fours, the lower one first.
-fn joined(low: u32, high: u32) -> u64 {
-    low as u64 + 4294967296 * (high as u64)
-}
-
-// The four bytes from i on, all of them there.
-fn whole32(s: &[u8], i: usize) -> u32 {
-    whole16(s, i) as u32 + 65536 * (whole16(s, i + 2) as u32)
-}
-
-// The two bytes from i on, both there.
-fn whole16(s: &[u8], i: usize) -> u16 {
-    s[i] as u16 + 256 * (s[i + 1] as u16)
+    u16_at(s, i) as u32 + 65536 * (u16_at(s, i + 2) as u32)
 }
 
 // The n bytes from a on, or as many of them as there are.
@@ -52,4 +35,9 @@ pub fn part(s: &[u8], a: usize, n: usize) -> &[u8] {
         return &s[a..];
     }
     &s[a..a + n]
+}
+
+// The eight bytes from i on, all of them there.
+pub fn whole64(s: &[u8], i: usize) -> u64 {
+    u64::from_le_bytes(s[i..i + 8].try_into().unwrap())
 }

@@ -36,23 +36,27 @@ pub fn hit(v: &[u8], g: Settings, t: u64) -> bool {
     }
 }
 
-// The next entry from `from` on, below the size, that is set, or, where that is wanted, clear.
+// The next entry from `from` on, below the size, that is set, or, where that is wanted, clear. Eight bytes that hold none
+// such are stepped over at once.
 pub fn next_entry(v: &[u8], want: bool, from: u64, size: u64) -> Found {
     let mut i = from;
     while i < size {
+        if v.len() / 8 <= (i / 64) as usize {
+            return entry_by_entry(v, want, i, size);
+        }
         let rest = wanted(v, want, i / 64) >> (i % 64);
         if rest != 0 {
-            let k = rest.trailing_zeros() as u64;
-            if size - i <= k {
+            let found = i + rest.trailing_zeros() as u64;
+            if size <= found {
                 return Found::Nothing;
             }
-            return Found::At(i + k);
+            return Found::At(found);
         }
-        let step = 64 - i % 64;
-        if size - i <= step {
+        let last = i - i % 64 + 63;
+        if size <= last {
             return Found::Nothing;
         }
-        i += step;
+        i = last + 1;
     }
     Found::Nothing
 }
@@ -60,10 +64,22 @@ pub fn next_entry(v: &[u8], want: bool, from: u64, size: u64) -> Found {
 // Entries 64 j to 64 j + 63, which are eight bytes, as the binary digits of a number, the first entry lowest: 1 for one
 // that is as wanted.
 fn wanted(v: &[u8], want: bool, j: u64) -> u64 {
-    let set = crate::lent::u64_at(v, (8 * j) as usize);
+    let set = crate::lent::whole64(v, (8 * j) as usize);
     if want {
         set
     } else {
         !set
     }
+}
+
+// The same one entry at a time, for where fewer than eight bytes are left.
+fn entry_by_entry(v: &[u8], want: bool, from: u64, size: u64) -> Found {
+    let mut i = from;
+    while i < size {
+        if is_set(v, i) == want {
+            return Found::At(i);
+        }
+        i += 1;
+    }
+    Found::Nothing
 }

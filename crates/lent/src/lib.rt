@@ -17,6 +17,9 @@ pub fn u16_at(s: &[u8], i: usize) -> u16
     requires { ⌜ i < 2 ^ 40 ⌝ }
     ensures { λ r. ⌜ r ≡ u16At (now (s .entry)) i ⌝ }
 {
+    if i + 2 <= s.len() {
+        return whole16(s, i);
+    }
     u8_at(s, i) as u16 + 256 * (u8_at(s, i + 1) as u16)
 }
 
@@ -25,31 +28,10 @@ pub fn u32_at(s: &[u8], i: usize) -> u32
     requires { ⌜ i < 2 ^ 32 ⌝ }
     ensures { λ r. ⌜ r ≡ u32At (now (s .entry)) i ⌝ }
 {
+    if i + 4 <= s.len() {
+        return whole32(s, i);
+    }
     u16_at(s, i) as u32 + 65536 * (u16_at(s, i + 2) as u32)
-}
-
-// The eight bytes from i on, all of them there: one read in the machine.
-pub fn whole64(s: &[u8], i: usize) -> u64
-    requires { do ⌜ i + 8 ≤ (← ⟦s.len()⟧) ⌝ }
-    ensures { λ r. ⌜ r ≡ u32At (now (s .entry)) i + 4294967296 * u32At (now (s .entry)) (i + 4) ⌝ }
-{
-    whole32(s, i) as u64 + 4294967296 * (whole32(s, i + 4) as u64)
-}
-
-// The four bytes from i on, all of them there.
-fn whole32(s: &[u8], i: usize) -> u32
-    requires { do ⌜ i + 4 ≤ (← ⟦s.len()⟧) ⌝ }
-    ensures { λ r. ⌜ r ≡ u32At (now (s .entry)) i ⌝ }
-{
-    whole16(s, i) as u32 + 65536 * (whole16(s, i + 2) as u32)
-}
-
-// The two bytes from i on, both there.
-fn whole16(s: &[u8], i: usize) -> u16
-    requires { do ⌜ i + 2 ≤ (← ⟦s.len()⟧) ⌝ }
-    ensures { λ r. ⌜ r ≡ u16At (now (s .entry)) i ⌝ }
-{
-    s[i] as u16 + 256 * (s[i + 1] as u16)
 }
 
 // The n bytes from a on, or as many of them as there are.
@@ -63,4 +45,26 @@ pub fn part(s: &[u8], a: usize, n: usize) -> &[u8]
         return &s[a..];
     }
     &s[a..a + n]
+}
+
+// The two, four and eight bytes from i on, all of them there: one read in the machine.
+fn whole16(s: &[u8], i: usize) -> u16
+    requires { do ⌜ i + 2 ≤ (← ⟦s.len()⟧) ⌝ }
+    ensures { λ r. ⌜ r ≡ u16At (now (s .entry)) i ⌝ }
+{
+    s[i] as u16 + 256 * (s[i + 1] as u16)
+}
+
+fn whole32(s: &[u8], i: usize) -> u32
+    requires { do ⌜ i + 4 ≤ (← ⟦s.len()⟧) ⌝ }
+    ensures { λ r. ⌜ r ≡ u32At (now (s .entry)) i ⌝ }
+{
+    whole16(s, i) as u32 + 65536 * (whole16(s, i + 2) as u32)
+}
+
+pub fn whole64(s: &[u8], i: usize) -> u64
+    requires { do ⌜ i + 8 ≤ (← ⟦s.len()⟧) ⌝ }
+    ensures { λ r. ⌜ r ≡ u32At (now (s .entry)) i + 4294967296 * u32At (now (s .entry)) (i + 4) ⌝ }
+{
+    whole32(s, i) as u64 + 4294967296 * (whole32(s, i + 4) as u64)
 }

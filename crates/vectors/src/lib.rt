@@ -60,17 +60,17 @@ pub fn next_entry(v: &[u8], want: bool, from: u64, size: u64) -> Found
         }
         let rest = wanted(v, want, i / 64) >> (i % 64);
         if rest != 0 {
-            let k = u64::trailing_zeros(rest) as u64;
-            if size - i <= k {
+            let found = i + u64::trailing_zeros(rest) as u64;
+            if size <= found {
                 return Found::Nothing;
             }
-            return Found::At(i + k);
+            return Found::At(found);
         }
-        let step = 64 - i % 64;
-        if size - i <= step {
+        let last = i - i % 64 + 63;
+        if size <= last {
             return Found::Nothing;
         }
-        i += step;
+        i = last + 1;
     }
     Found::Nothing
 }

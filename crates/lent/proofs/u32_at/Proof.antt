@@ -3,14 +3,17 @@ use Rattle.lent.specs.Lent.{u32At}
 use Rattle.lent.proofs.u32_at.Statement.{statement}
 use Rattle.lent.proofs.u32_at.Tie as tie
 
-returns : tie.Need-returns
+returns-2 : tie.Need-returns-2
 unfolding u32At
-returns c = cc
+returns-2 c = cc
 
 pub u32-at-spec : {M : Type 1} → statement M
 u32-at-spec =
     tie.close
     (tie.spec
+    (λ c. search needs)
+    (λ c κs. search needs)
+    (λ c. search needs)
     (λ c κs. search needs)
     (λ c. search needs)
     (λ c. search needs)
@@ -18,4 +21,4 @@ u32-at-spec =
     (λ c. search needs)
     (λ c. search needs)
     (λ c. search needs)
-    returns)
+    returns-2)

@@ -24,31 +24,37 @@ returns c =
     let came = c .before .before .before .loop .inv in
     c .entry-by-entry .ensures ∙ first-above _ (came .0) (came .1)
 
-cast-k : tie.Need-cast-k Inv-loop μ-loop
-cast-k c = omega (arith, trailing-le 64 (c .before .wanted .result / 2 ^ (c .before .before .before .before .loop .i % 64)))
+cast-found : tie.Need-cast-found Inv-loop μ-loop
+cast-found c = omega (arith, trailing-le 64 (c .before .wanted .result / 2 ^ (c .before .before .before .before .loop .i % 64)))
+
+add-found : tie.Need-add-found Inv-loop μ-loop
+add-found c =
+    let found = rest-least (entryIs _ _) (c .before .before .before .before .loop .i) (omega arith) (c .before .wanted .ensures) (omega arith) in
+    omega (arith, found .below)
 
 returns-2 : tie.Need-returns-2 Inv-loop μ-loop
 returns-2 c =
     let at = c .before .before .before .before .before .loop in
-    let found = rest-least _ (at .i) (omega arith) (c .before .before .wanted .ensures) (omega arith) in
+    let found = rest-least (entryIs _ _) (at .i) (omega arith) (c .before .before .wanted .ensures) (omega arith) in
     none-is (none-part (le-refl _) (omega arith) (none-join (at .inv .1) (found .first)))
 
 returns-3 : tie.Need-returns-3 Inv-loop μ-loop
 returns-3 c =
     let at = c .before .before .before .before .before .loop in
-    let found = rest-least _ (at .i) (omega arith) (c .before .before .wanted .ensures) (omega arith) in
+    let found = rest-least (entryIs _ _) (at .i) (omega arith) (c .before .before .wanted .ensures) (omega arith) in
     at-is (record { from = omega arith; below = omega arith; holds = found .holds; first = none-join (at .inv .1) (found .first) })
 
 returns-4 : tie.Need-returns-4 Inv-loop μ-loop
 returns-4 c =
     let at = c .before .before .before .before .before .loop in
-    let none = rest-none _ (at .i) (omega arith) (c .before .before .wanted .ensures) (c .before .if2 .left) in
+    let none = rest-none (entryIs _ _) (at .i) (omega arith) (c .before .before .wanted .ensures) (c .before .if2 .left) in
     none-is (none-part (le-refl _) (omega arith) (none-join (at .inv .1) none))
 
 loop-again : tie.Need-loop-again Inv-loop μ-loop
 loop-again c =
     let at = c .before .before .before .before .before .loop in
-    (omega arith, none-join (at .inv .1) (rest-none _ (at .i) (omega arith) (c .before .before .wanted .ensures) (c .before .if2 .left)))
+    let none = rest-none (entryIs _ _) (at .i) (omega arith) (c .before .before .wanted .ensures) (c .before .if2 .left) in
+    (omega arith, none-part (le-refl _) (omega arith) (none-join (at .inv .1) none))
 
 returns-5 : tie.Need-returns-5 Inv-loop μ-loop
 returns-5 c = none-is (none-part (le-refl _) (c .loop-test .left) (c .before .loop .inv .1))
@@ -64,10 +70,9 @@ next-entry-spec =
     returns
     (λ c κs. omega arith)
     (λ c. omega arith)
-    cast-k
-    (λ c. omega arith)
+    cast-found
+    add-found
     returns-2
-    (λ c. omega arith)
     returns-3
     (λ c. omega arith)
     (λ c. omega arith)
