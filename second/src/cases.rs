@@ -125,10 +125,18 @@ fn chain(first_port: u8, length: u8, base_mib: u16) -> Vec<DraftPort> {
 
 /// Every hand-written case.
 pub fn all_cases() -> Vec<Case> {
-    [paper_cases(), answer_cases(), register_cases(), reading_cases(), walking_cases(), first_build_cases()]
-        .into_iter()
-        .flatten()
-        .collect()
+    [
+        paper_cases(),
+        answer_cases(),
+        register_cases(),
+        reading_cases(),
+        walking_cases(),
+        first_build_cases(),
+        scan_cases(),
+    ]
+    .into_iter()
+    .flatten()
+    .collect()
 }
 
 /// The one-port picture of the paper, byte by byte.
@@ -390,6 +398,28 @@ fn answer_cases() -> Vec<Case> {
             ],
         ),
     ]
+}
+
+/// One entry that two siblings share, and one that a parent lacks, on either side of every border that a
+/// search by bytes, by eight bytes or to the vector's end can get wrong.
+fn scan_cases() -> Vec<Case> {
+    let high = |port: DraftPort, entries: Vec<u64>| {
+        port.vector(High, shape(5, 0, 16), &entries).with_memory_space(true)
+    };
+    let address = |entry: u64| Some((16 + entry) << 28);
+    let pair = |entry: u64| {
+        let shared = vec![high(root(0), vec![entry]), high(root(1), vec![entry])];
+        let all_but_one = (0..8_192).filter(|&other| other != entry).collect();
+        let lacking = parent_and_child(high(root(0), all_but_one), high(root(0), (0..8_192).collect()));
+        [
+            case("item 5: one entry shared", shared, vec![checks(12, 0, 1, address(entry))]),
+            case("item 5: one entry lacking above", lacking, vec![checks(14, 1, 255, address(entry))]),
+        ]
+    };
+    [0, 1, 7, 8, 62, 63, 64, 65, 127, 128, 4_095, 8_127, 8_128, 8_190, 8_191]
+        .into_iter()
+        .flat_map(pair)
+        .collect()
 }
 
 /// A switch whose ports 3 and 4 have own ID 0200h, while 2 and 4 claim bus 4, as does nobody's own.
