@@ -27,8 +27,8 @@ extern "C" {
 /* The version of this header and of the archive that it comes with, as numbers and as text. */
 #define FPB_VERSION_MAJOR 1
 #define FPB_VERSION_MINOR 1
-#define FPB_VERSION_PATCH 0
-#define FPB_VERSION "1.1.0"
+#define FPB_VERSION_PATCH 1
+#define FPB_VERSION "1.1.1"
 
 /* The bytes of an answer, and the places in its path. */
 #define FPB_ANSWER_LENGTH 40

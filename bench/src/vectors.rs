@@ -40,7 +40,7 @@ pub fn hit(v: &[u8], g: Settings, t: u64) -> bool {
 // such are stepped over at once.
 pub fn next_entry(v: &[u8], want: bool, from: u64, size: u64) -> Found {
     let mut i = from;
-    while i < size {
+    loop {
         if v.len() / 8 <= (i / 64) as usize {
             return entry_by_entry(v, want, i, size);
         }
@@ -58,7 +58,6 @@ pub fn next_entry(v: &[u8], want: bool, from: u64, size: u64) -> Found {
         }
         i = last + 1;
     }
-    Found::Nothing
 }
 
 // Entries 64 j to 64 j + 63, which are eight bytes, as the binary digits of a number, the first entry lowest: 1 for one
