@@ -36,49 +36,46 @@ pub fn hit(v: &[u8], g: Settings, t: u64) -> bool {
     }
 }
 
-// The next entry from `from` on, below the size, that is set, or, where that is wanted, clear. Eight bytes that hold none
-// such are stepped over at once.
+// The next entry from `from` on, below the size, that is set, or, where that is wanted, clear. Bytes that hold none such are
+// stepped over.
 pub fn next_entry(v: &[u8], want: bool, from: u64, size: u64) -> Found {
     let mut i = from;
     loop {
-        if v.len() / 8 <= (i / 64) as usize {
-            return entry_by_entry(v, want, i, size);
-        }
-        let rest = wanted(v, want, i / 64) >> (i % 64);
-        if rest != 0 {
-            let found = i + rest.trailing_zeros() as u64;
+        let seen = look(v, want, i);
+        if seen.wanted != 0 {
+            let found = i + seen.wanted.trailing_zeros() as u64;
             if size <= found {
                 return Found::Nothing;
             }
             return Found::At(found);
         }
-        let last = i - i % 64 + 63;
-        if size <= last {
+        if size <= seen.last {
             return Found::Nothing;
         }
-        i = last + 1;
+        i = seen.last + 1;
     }
 }
 
-// Entries 64 j to 64 j + 63, which are eight bytes, as the binary digits of a number, the first entry lowest: 1 for one
-// that is as wanted.
-fn wanted(v: &[u8], want: bool, j: u64) -> u64 {
-    let set = crate::lent::whole64(v, (8 * j) as usize);
-    if want {
-        set
-    } else {
-        !set
-    }
+// The entries from the one looked for on, up to and with `last`, as binary digits: 1 for one that is as wanted.
+struct Seen {
+    wanted: u64,
+    last: u64,
 }
 
-// The same one entry at a time, for where fewer than eight bytes are left.
-fn entry_by_entry(v: &[u8], want: bool, from: u64, size: u64) -> Found {
-    let mut i = from;
-    while i < size {
-        if is_set(v, i) == want {
-            return Found::At(i);
-        }
-        i += 1;
+// The entries from i on that lie in the same bytes: eight of them, or one where fewer than eight are left.
+fn look(v: &[u8], want: bool, i: u64) -> Seen {
+    if v.len() / 8 <= (i / 64) as usize {
+        let set = crate::lent::u8_at(v, (i / 8) as usize);
+        let wanted = if want { set } else { !set };
+        return Seen {
+            wanted: wanted as u64 >> (i % 8),
+            last: i - i % 8 + 7,
+        };
     }
-    Found::Nothing
+    let set = crate::lent::whole64(v, (8 * (i / 64)) as usize);
+    let wanted = if want { set } else { !set };
+    Seen {
+        wanted: wanted >> (i % 64),
+        last: i - i % 64 + 63,
+    }
 }

@@ -4,13 +4,13 @@ use Prim.Native.Nat.{ℕ, zero, suc, _+_, _-_, _*_, _/_, _%_, _^_, _≤_, _<_, s
 use mathlib.Core.Path.{_≡_, refl, sym, ap, _∙_, subst}
 use mathlib.Core.Bool.{Bool, true, false, not}
 use native.Mathlib.Decide.{decLt}
-use native.Mathlib.Nat.{pow-succ', mul-assoc, mul-comm, mul-suc, add-comm, div-one, mul-le-mul-left}
+use native.Mathlib.Nat.{pow-succ', mul-assoc, mul-comm, mul-suc, add-comm, div-one, div-add-mod, mod-lt, mul-le-mul-left, le-refl}
 use native.Mathlib.Numerals.{one-add}
 use native.Mathlib.Omega.{arith}
 use lib.Dec.{eqb}
 use lib.Count.{trailingZeros, under}
 use lib.Pow.{shr-shr, shr-lt, high, pow-add, pow-pos}
-use Rattle.least.proofs.Laws.{NoneIn, LeastAt}
+use Rattle.least.proofs.Laws.{NoneIn, LeastAt, none-part}
 
 -- digit k
 abbrev bit : ℕ → ℕ → Bool
@@ -149,15 +149,31 @@ digits-least {p} {i} {n} {x} l some d =
       first = record { none = λ t l h. digits-of d t l (omega (arith, a .below)) ∙ a .none (t - i) (omega arith) };
     }
 
--- The 64 digits of which one belongs to i, and those from i's on.
-module _ (p : ℕ → Bool) (i : ℕ) {x : ℕ} (most : x < 2 ^ 64) (at : (k : ℕ) → k < 64 → eqb (x / 2 ^ k % 2) 1 ≡ p (64 * (i / 64) + k)) where
-  rest : Digits p i (64 - i % 64) (x / 2 ^ (i % 64))
-  rest =
-      let place : 64 * (i / 64) + i % 64 ≡ i = omega arith in
-      subst (λ (j : ℕ). Digits p j (64 - i % 64) (x / 2 ^ (i % 64))) place (digits-from (i % 64) (omega arith) (record { most = most; at = at }))
+-- what one look shows: the answers from i on and up to `last`, 64 of them at most
+abbrev pub Sees : (ℕ → Bool) → ℕ → ℕ → ℕ → Type 0
+Sees p i last x =
+    ((i ≤ last) × (last < i + 64) × (x < 2 ^ (last + 1 - i))) × ((k : ℕ) → k < last + 1 - i → bit x k ≡ p (i + k))
 
-  pub rest-none : x / 2 ^ (i % 64) ≡ 0 → NoneIn p i (i + (64 - i % 64))
-  rest-none e = digits-none e rest
+-- Of w digits, those from i's on.
+pub sees : (p : ℕ → Bool) (i w last : ℕ) {x : ℕ} → 0 < w → w ≤ 64 → last + 1 ≡ i + (w - i % w) → x < 2 ^ w
+    → ((k : ℕ) → k < w → bit x k ≡ p (w * (i / w) + k)) → Sees p i last (x / 2 ^ (i % w))
+sees p i w last {x} some small e most at =
+    let here : i % w < w = mod-lt i some in
+    let count : w - i % w ≡ last + 1 - i = omega arith in
+    let from : Digits p (w * (i / w) + i % w) (w - i % w) (x / 2 ^ (i % w)) =
+    digits-from (i % w) (omega arith) (record { most = most; at = at }) in
+    let shown : Digits p i (last + 1 - i) (x / 2 ^ (i % w)) =
+    subst (λ (j : ℕ). Digits p j (last + 1 - i) (x / 2 ^ (i % w))) (div-add-mod i w)
+    (subst (λ (n : ℕ). Digits p (w * (i / w) + i % w) n (x / 2 ^ (i % w))) count from) in
+    ((omega arith, omega arith, shown .most), shown .at)
 
-  pub rest-least : 0 < x / 2 ^ (i % 64) → LeastAt p i (i + (64 - i % 64)) (i + trailingZeros 64 (x / 2 ^ (i % 64)))
-  rest-least some = digits-least (omega arith) some rest
+pub sees-none : (p : ℕ → Bool) (i last : ℕ) {x : ℕ} → x ≡ 0 → Sees p i last x → NoneIn p i (last + 1)
+sees-none p i last {x} e s =
+    let shown : Digits p i (last + 1 - i) x = record { most = s .0 .2; at = s .1 } in
+    none-part (le-refl _) (omega arith) (digits-none e shown)
+
+pub sees-least : (p : ℕ → Bool) (i last : ℕ) {x : ℕ} → 0 < x → Sees p i last x → LeastAt p i (last + 1) (i + trailingZeros 64 x)
+sees-least p i last {x} some s =
+    let shown : Digits p i (last + 1 - i) x = record { most = s .0 .2; at = s .1 } in
+    let a = digits-least (omega (arith, s .0 .1)) some shown in
+    record { from = a .from; below = omega (arith, s .0 .0, a .below); holds = a .holds; first = a .first }

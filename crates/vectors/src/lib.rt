@@ -1,9 +1,10 @@
 // A vector of entries, as the RID, MEM Low and MEM High vectors all are: which entry applies to a target, whether it is
 // set, and the next entry that is.
+mod looks;
+
 use least::Found;
 ghost use mathlib.Core.Path.{_≡_};
-ghost use Prim.Native.Nat.{ℕ, _+_, _*_, _/_, _%_, _^_, _≤_, _<_};
-ghost use lib.Dec.{eqb};
+ghost use Prim.Native.Nat.{_<_};
 ghost use Rattle.least.specs.Least.{firstIn};
 ghost use Rattle.vectors.specs.Vectors.{entryOf, isSet, entryIs, hits};
 
@@ -48,52 +49,24 @@ pub fn hit(v: &[u8], g: Settings, t: u64) -> bool
     }
 }
 
-// The next entry from `from` on, below the size, that is set, or, where that is wanted, clear. Eight bytes that hold none
-// such are stepped over at once.
+// The next entry from `from` on, below the size, that is set, or, where that is wanted, clear. Bytes that hold none such are
+// stepped over.
 pub fn next_entry(v: &[u8], want: bool, from: u64, size: u64) -> Found
     ensures { λ r. ⌜ r ≡ firstIn (entryIs (now (v .entry)) want) from size ⌝ }
 {
     let mut i = from;
     loop {
-        if v.len() / 8 <= (i / 64) as usize {
-            return entry_by_entry(v, want, i, size);
-        }
-        let rest = wanted(v, want, i / 64) >> (i % 64);
-        if rest != 0 {
-            let found = i + u64::trailing_zeros(rest) as u64;
+        let seen = looks::look(v, want, i);
+        if seen.wanted != 0 {
+            let found = i + u64::trailing_zeros(seen.wanted) as u64;
             if size <= found {
                 return Found::Nothing;
             }
             return Found::At(found);
         }
-        let last = i - i % 64 + 63;
-        if size <= last {
+        if size <= seen.last {
             return Found::Nothing;
         }
-        i = last + 1;
+        i = seen.last + 1;
     }
-}
-
-// Entries 64 j to 64 j + 63, which are eight bytes, as the binary digits of a number, the first entry lowest: 1 for one
-// that is as wanted.
-fn wanted(v: &[u8], want: bool, j: u64) -> u64
-    requires { do ⌜ 8 * j + 8 ≤ (← ⟦v.len()⟧) ⌝ }
-    ensures { λ r. ⌜ ((k : ℕ) → k < 64 → eqb (r / 2 ^ k % 2) 1 ≡ entryIs (now (v .entry)) want (64 * j + k)) ⌝ }
-{
-    let set = lent::whole64(v, (8 * j) as usize);
-    if want { set } else { !set }
-}
-
-// The same one entry at a time, for where fewer than eight bytes are left.
-fn entry_by_entry(v: &[u8], want: bool, from: u64, size: u64) -> Found
-    ensures { λ r. ⌜ r ≡ firstIn (entryIs (now (v .entry)) want) from size ⌝ }
-{
-    let mut i = from;
-    while i < size {
-        if is_set(v, i) == want {
-            return Found::At(i);
-        }
-        i += 1;
-    }
-    Found::Nothing
 }

@@ -1,60 +1,56 @@
 -- The loop has found no entry as wanted from `from` on and below `i`.
-use Prim.Native.Nat.{_-_, _/_, _%_, _^_, _≤_, _<_}
-use mathlib.Core.Path.{_∙_}
+use Prim.Native.Nat.{_-_, _≤_}
 use native.Mathlib.Nat.{le-refl}
 use native.Mathlib.Omega.{arith}
+use borrow.Author.Needs.{needs}
 use lib.Count.{trailing-le}
-use Rattle.least.proofs.Laws.{NoneIn, none-empty, none-join, none-part, at-is, none-is, first-above}
+use Rattle.least.proofs.Laws.{NoneIn, none-empty, none-join, none-part, at-is, none-is}
 use Rattle.vectors.specs.Vectors.{entryIs}
-use Rattle.vectors.proofs.Digits.{rest-none, rest-least}
+use Rattle.vectors.proofs.Digits.{sees-none, sees-least}
 use Rattle.vectors.proofs.next_entry.Statement.{statement}
 use Rattle.vectors.proofs.next_entry.Tie as tie
 
 abbrev Inv-loop : tie.InvT-loop
-Inv-loop v want from size i₀ i = (from ≤ i) × (i < 2 ^ 64) × NoneIn (entryIs v want) from i
+Inv-loop v want from size i₀ i = (from ≤ i) × NoneIn (entryIs v want) from i
 
 abbrev μ-loop : tie.MeasureT-loop
 μ-loop v want from size i₀ i = size - i
 
 loop-holds : tie.Need-loop-holds Inv-loop μ-loop
-loop-holds c = (le-refl _, omega arith, none-empty (le-refl _))
-
-returns : tie.Need-returns Inv-loop μ-loop
-returns c =
-    let came = c .before .before .loop .inv in
-    c .entry-by-entry .ensures ∙ first-above _ (came .0) (came .2)
+loop-holds c = (le-refl _, none-empty (le-refl _))
 
 cast-found : tie.Need-cast-found Inv-loop μ-loop
-cast-found c = omega (arith, trailing-le 64 (c .before .wanted .result / 2 ^ (c .before .before .before .loop .i % 64)))
+cast-found c = omega (arith, trailing-le 64 (c .before .before .before .look .result .wanted))
 
 add-found : tie.Need-add-found Inv-loop μ-loop
 add-found c =
-    let found = rest-least (entryIs _ _) (c .before .before .before .loop .i) (omega arith) (c .before .wanted .ensures) (omega arith) in
+    let found = sees-least (entryIs _ _) _ _ (omega arith) (c .before .before .before .look .ensures) in
     omega (arith, found .below)
+
+returns : tie.Need-returns Inv-loop μ-loop
+returns c =
+    let came = c .before .before .before .before .before .loop .inv .1 in
+    let found = sees-least (entryIs _ _) _ _ (omega arith) (c .before .before .before .before .look .ensures) in
+    none-is (none-part (le-refl _) (omega arith) (none-join came (found .first)))
 
 returns-2 : tie.Need-returns-2 Inv-loop μ-loop
 returns-2 c =
-    let at = c .before .before .before .before .loop in
-    let found = rest-least (entryIs _ _) (at .i) (omega arith) (c .before .before .wanted .ensures) (omega arith) in
-    none-is (none-part (le-refl _) (omega arith) (none-join (at .inv .2) (found .first)))
+    let came = c .before .before .before .before .before .loop .inv .1 in
+    let found = sees-least (entryIs _ _) _ _ (omega arith) (c .before .before .before .before .look .ensures) in
+    at-is (record { from = omega arith; below = omega arith; holds = found .holds; first = none-join came (found .first) })
 
 returns-3 : tie.Need-returns-3 Inv-loop μ-loop
 returns-3 c =
-    let at = c .before .before .before .before .loop in
-    let found = rest-least (entryIs _ _) (at .i) (omega arith) (c .before .before .wanted .ensures) (omega arith) in
-    at-is (record { from = omega arith; below = omega arith; holds = found .holds; first = none-join (at .inv .2) (found .first) })
+    let none = sees-none (entryIs _ _) _ _ (c .before .before .if1 .left) (c .before .before .before .before .look .ensures) in
+    none-is (none-part (le-refl _) (omega arith) (none-join (c .before .before .before .before .before .loop .inv .1) none))
 
-returns-4 : tie.Need-returns-4 Inv-loop μ-loop
-returns-4 c =
-    let at = c .before .before .before .before .loop in
-    let none = rest-none (entryIs _ _) (at .i) (omega arith) (c .before .before .wanted .ensures) (c .before .if2 .left) in
-    none-is (none-part (le-refl _) (omega arith) (none-join (at .inv .2) none))
+loop-less : tie.Need-loop-less Inv-loop μ-loop
+loop-less c = omega (arith, c .before .before .before .before .before .look .ensures .0 .0)
 
 loop-again : tie.Need-loop-again Inv-loop μ-loop
 loop-again c =
-    let at = c .before .before .before .before .loop in
-    let none = rest-none (entryIs _ _) (at .i) (omega arith) (c .before .before .wanted .ensures) (c .before .if2 .left) in
-    (omega arith, omega arith, none-part (le-refl _) (omega arith) (none-join (at .inv .2) none))
+    let seen = c .before .before .before .before .before .look .ensures in
+    (omega (arith, seen .0 .0), none-join (c .before .before .before .before .before .before .loop .inv .1) (sees-none (entryIs _ _) _ _ (c .before .before .before .if1 .left) seen))
 
 pub next-entry-spec : {M : Type 1} → statement M
 next-entry-spec =
@@ -63,17 +59,12 @@ next-entry-spec =
     Inv-loop
     μ-loop
     loop-holds
-    (λ c κs. tt)
-    returns
-    (λ c κs. omega arith)
-    (λ c. omega arith)
+    (λ c κs. search needs)
     cast-found
     add-found
+    returns
     returns-2
     returns-3
     (λ c. omega arith)
-    (λ c. omega arith)
-    returns-4
-    (λ c. omega arith)
-    (λ c. omega arith)
+    loop-less
     loop-again)
