@@ -67,15 +67,9 @@ fn look(v: &[u8], want: bool, i: u64) -> Seen {
     if v.len() / 8 <= (i / 64) as usize {
         let set = crate::lent::u8_at(v, (i / 8) as usize);
         let wanted = if want { set } else { !set };
-        return Seen {
-            wanted: wanted as u64 >> (i % 8),
-            last: i - i % 8 + 7,
-        };
+        return Seen { wanted: wanted as u64 >> (i % 8), last: i - i % 8 + 7 };
     }
     let set = crate::lent::whole64(v, (8 * (i / 64)) as usize);
     let wanted = if want { set } else { !set };
-    Seen {
-        wanted: wanted >> (i % 64),
-        last: i - i % 64 + 63,
-    }
+    Seen { wanted: wanted >> (i % 64), last: i - i % 64 + 63 }
 }
