@@ -1,5 +1,6 @@
 // Reading lent bytes, whatever they are: numbers in little-endian order, and parts. What lies past the end reads as 0
-// and belongs to no part, so no reader asks anything of its caller but an offset that can be added to.
+// and belongs to no part, so no reader asks anything of its caller but an offset that can be added to; only the whole
+// reads at the end ask that all bytes are there.
 ghost use mathlib.Core.Path.{_≡_};
 ghost use Prim.Native.Nat.{_+_, _*_, _≤_, _<_, _^_};
 ghost use lib.ListN.{getD, take, drop};

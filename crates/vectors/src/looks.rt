@@ -1,17 +1,17 @@
-// One look at a vector: eight bytes of it, or one where fewer than eight are left, as the binary digits of a number, 1 for an
-// entry that is as wanted, the first entry lowest.
+// One look at a vector: the entries of eight bytes, or of one where fewer than eight are left, as the binary digits of a
+// number, the first entry lowest, 1 for one that is as wanted.
 ghost use mathlib.Core.Path.{_≡_};
 ghost use Prim.Native.Nat.{ℕ, _+_, _-_, _*_, _/_, _%_, _^_, _≤_, _<_};
 ghost use lib.Dec.{eqb};
 ghost use Rattle.vectors.specs.Vectors.{entryIs};
 
-// The entries from the one looked for on, up to and with `last`.
+// The digits of some entries in a row, and the number of the last of them.
 pub struct Seen {
     pub wanted: u64,
     pub last: u64,
 }
 
-// The entries from i on that lie in the same bytes.
+// The entries from i on that lie in the bytes looked at.
 pub fn look(v: &[u8], want: bool, i: u64) -> Seen
     ensures { λ r. ⌜ (i ≤ r .last) × (r .last < i + 64) × (r .wanted < 2 ^ (r .last + 1 - i)) ⌝ }
     ensures { λ r. ⌜ ((k : ℕ) → k < r .last + 1 - i → eqb (r .wanted / 2 ^ k % 2) 1 ≡ entryIs (now (v .entry)) want (i + k)) ⌝ }
