@@ -30,13 +30,13 @@ twice w b = ap (λ (y : ℕ). y * b) (pow-succ' 2 w) ∙ mul-assoc 2 (2 ^ w) b
 
 -- The digits of two numbers, one above the other.
 bit-low : (w k a b : ℕ) → k < w → bit (a + 2 ^ w * b) k ≡ bit a k
+bit-low zero k a b l = absurd (omega arith)
 bit-low (suc w) zero a b l =
     let even : (a + 2 ^ suc w * b) % 2 ≡ a % 2 = omega (arith, twice w b) in
     bit-zero (a + 2 ^ suc w * b) ∙ ap (λ (y : ℕ). eqb y 1) even ∙ sym (bit-zero a)
 bit-low (suc w) (suc k) a b l =
     let half : (a + 2 ^ suc w * b) / 2 ≡ a / 2 + 2 ^ w * b = omega (arith, twice w b) in
     bit-suc (a + 2 ^ suc w * b) k ∙ ap (λ (y : ℕ). bit y k) half ∙ bit-low w k (a / 2) b (omega arith) ∙ sym (bit-suc a k)
-bit-low zero k a b l = absurd (omega arith)
 
 bit-high : (w k a b : ℕ) → a < 2 ^ w → bit (a + 2 ^ w * b) (w + k) ≡ bit b k
 bit-high w k a b l =

@@ -41,7 +41,7 @@ returns-2 c =
 
 returns-3 : tie.Need-returns-3 Inv-loop μ-loop
 returns-3 c =
-    let none = sees-none (entryIs _ _) _ _ (c .before .before .if1 .left) (c .before .before .before .before .look .ensures) in
+    let none = sees-none (entryIs _ _) _ _ (omega arith) (c .before .before .before .before .look .ensures) in
     none-is (none-part (le-refl _) (omega arith) (none-join (c .before .before .before .before .before .loop .inv .1) none))
 
 loop-less : tie.Need-loop-less Inv-loop μ-loop
@@ -50,7 +50,7 @@ loop-less c = omega (arith, c .before .before .before .before .before .look .ens
 loop-again : tie.Need-loop-again Inv-loop μ-loop
 loop-again c =
     let seen = c .before .before .before .before .before .look .ensures in
-    (omega (arith, seen .0 .0), none-join (c .before .before .before .before .before .before .loop .inv .1) (sees-none (entryIs _ _) _ _ (c .before .before .before .if1 .left) seen))
+    (omega (arith, seen .0 .0), none-join (c .before .before .before .before .before .before .loop .inv .1) (sees-none (entryIs _ _) _ _ (omega arith) seen))
 
 pub next-entry-spec : {M : Type 1} → statement M
 next-entry-spec =
