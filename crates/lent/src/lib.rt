@@ -26,7 +26,7 @@ pub fn u16_at(s: &[u8], i: usize) -> u16
 
 // The four bytes from i on.
 pub fn u32_at(s: &[u8], i: usize) -> u32
-    requires { ⌜ i < 2 ^ 32 ⌝ }
+    requires { ⌜ i < 2 ^ 36 ⌝ }
     ensures { λ r. ⌜ r ≡ u32At (now (s .entry)) i ⌝ }
 {
     if i + 4 <= s.len() {

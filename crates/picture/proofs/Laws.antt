@@ -13,12 +13,16 @@ use Rattle.least.proofs.Laws.{impossible, NoneIn, at-is, none-is, is-at}
 use Rattle.least.specs.declared.Found.{Found}
 use Rattle.least.specs.declared.Found.the-variants.{At, Nothing}
 use Rattle.least.specs.Least.{firstIn, orElse}
+use Rattle.registers.specs.declared.Fpb.{Fpb}
+use Rattle.registers.specs.declared.Mechanism.{Mechanism}
+use Rattle.registers.specs.declared.Mechanism.the-variants.{Rid, Low, High}
 use Rattle.registers.specs.declared.Port.{Port}
 use Rattle.registers.specs.Record.{portAt}
+use Rattle.registers.specs.Vectors.{vectorBytes}
 use Rattle.trees.specs.Trees.{countOf}
 use Rattle.picture.specs.declared.Header.{Header}
 use Rattle.picture.specs.Header.{headerOf, countWrong}
-use Rattle.picture.specs.Layout.{runningOffset, placeWrong, endWrong}
+use Rattle.picture.specs.Layout.{runningOffset, placeWrong, endWrong, offsetIn}
 use Rattle.picture.specs.declared.Reading.{Reading}
 use Rattle.picture.specs.declared.Reading.the-variants.{Read, Refused}
 use Rattle.picture.specs.declared.Refusal.{Refusal}
@@ -56,6 +60,12 @@ module _ (s : List ℕ) (p offset : ℕ) (end : p ≡ countOf s) (at : offset �
   pub misplaced-nowhere : offset ≡ length s → Nothing ≡ misplacedIn s
   unfolding endWrong
   misplaced-nowhere same = rest Nothing (rw (← end, ← at, eq-eqb _ _ same))
+
+-- a vector's place among those of its port hangs on their sizes
+pub offset-same : (f g : Fpb) → ((m : Mechanism) → vectorBytes f m ≡ vectorBytes g m) → (m : Mechanism) → offsetIn f m ≡ offsetIn g m
+offset-same f g same Rid = refl
+offset-same f g same Low = same Rid
+offset-same f g same High = rw (same Rid, same Low)
 
 -- the count of the header that was read
 pub count-of : (s : List ℕ) (h : Header) → h ≡ headerOf s → h .count ≡ countOf s

@@ -11,7 +11,7 @@ use borrow.Author.Tests.{eqb-true, not-false}
 use lib.ListN.{length, take, drop, length-take, length-drop}
 use lib.Dec.{eqb}
 use lib.Seq.{length-take-le}
-use Rattle.least.proofs.Laws.{impossible, NoneIn, is-none}
+use Rattle.least.proofs.Laws.{impossible, NoneIn, none-is, is-none}
 use Rattle.least.specs.declared.Found.{Found}
 use Rattle.least.specs.declared.Found.the-variants.{At, Nothing}
 use Rattle.least.specs.Least.{firstIn, orElse}
@@ -22,7 +22,7 @@ use Rattle.registers.specs.declared.Mechanism.the-variants.{Rid, Low, High}
 use Rattle.registers.specs.Record.{portAt}
 use Rattle.registers.specs.Vectors.{vectorBytes}
 use Rattle.trees.specs.Trees.{countOf, treeOf}
-use Rattle.picture.proofs.Laws.{count-small}
+use Rattle.picture.proofs.Laws.{count-of, count-small}
 use Rattle.picture.specs.declared.Header.{Header}
 use Rattle.picture.specs.declared.Reading.{Reading}
 use Rattle.picture.specs.declared.Reading.the-variants.{Read, Refused}
@@ -44,7 +44,7 @@ pub record Reads (s : List ℕ) (h : Header) : Type 0 where
   pub end-right : endWrong s ≡ false
 
 -- one refusal passed on the way to a header
-past-if : (wrong : Bool) (number port : ℕ) (rest : Reading) {h : Header} → refusedIf wrong number port rest ≡ Read h → (wrong ≡ false) × (rest ≡ Read h)
+pub past-if : (wrong : Bool) (number port : ℕ) (rest : Reading) {h : Header} → refusedIf wrong number port rest ≡ Read h → (wrong ≡ false) × (rest ≡ Read h)
 past-if true number port rest e = impossible (cc)
 past-if false number port rest e = (refl, e)
 
@@ -93,6 +93,16 @@ reads s h e =
     kept Settings tree chain settings start = is-none _ _ _ settings
     kept Start tree chain settings start = is-none _ _ _ start
 
+-- and one that passes every test reads
+pub passes : (s : List ℕ) (h : Header) → Reads s h → reading s ≡ Read h
+unfolding reading portsReading misplacedIn
+passes s h r =
+    simp (r .length-right, r .edition-right, r .count-right, r .total-right, r .offset-right, kept Tree, kept Chain, kept Settings, kept Start, sym (none-is (r .in-place)), r .end-right)
+    (ap Read (sym (r .header)))
+  where
+    kept : (rule : Rule) → firstIn (breaks rule s) 0 (countOf s) ≡ Nothing
+    kept rule = sym (none-is (r .rules-kept rule))
+
 -- numbers 3, 6 and 7 make the tree sane
 pub reads-sane : (s : List ℕ) (h : Header) → Reads s h → Sane (treeOf s)
 unfolding breaks headerOf
@@ -103,8 +113,19 @@ reads-sane s h r =
       few = count-small (headerOf s) (r .count-right);
     }
 
+-- what the calls go on with: the count of ports, and the tree
+module _ (s : List ℕ) (h : Header) (read : reading s ≡ Read h) where
+  pub count-read : h .count ≡ countOf s
+  count-read = count-of s h (reads s h read .header)
+
+  pub sane-read : Sane (treeOf s)
+  sane-read = reads-sane s h (reads s h read)
+
+  pub count-few : h .count ≤ 64
+  count-few = rw count-read (sane-read .few)
+
 -- the running offset only grows, and ends with the picture
-offset-grows : (s : List ℕ) (p n : ℕ) → p ≤ n → runningOffset s p ≤ runningOffset s n
+pub offset-grows : (s : List ℕ) (p n : ℕ) → p ≤ n → runningOffset s p ≤ runningOffset s n
 unfolding runningOffset
 offset-grows s p zero l = let same : p ≡ 0 = omega arith in rw same (le-refl _)
 offset-grows s p (suc n) l = go (offset-grows s p n) (decLt n p)
@@ -114,7 +135,7 @@ offset-grows s p (suc n) l = go (offset-grows s p n) (decLt n p)
     go lower (no k) = le-trans (lower (omega arith)) (omega arith)
 
 module _ (s : List ℕ) (h : Header) (r : Reads s h) (p : ℕ) (below : p < countOf s) where
-  starts-there : portAt s p .«vectors_at» ≡ runningOffset s p
+  pub starts-there : portAt s p .«vectors_at» ≡ runningOffset s p
   unfolding placeWrong
   starts-there = eqb-true _ _ (not-false _ (r .in-place .none p zero-le below))
 
@@ -122,14 +143,14 @@ module _ (s : List ℕ) (h : Header) (r : Reads s h) (p : ℕ) (below : p < coun
   unfolding endWrong
   ends-there = eqb-true _ _ (not-false _ (r .end-right))
 
-  abbrev bytes : Mechanism → ℕ
+  abbrev pub bytes : Mechanism → ℕ
   bytes = vectorBytes (portAt s p .fpb)
 
-  room : runningOffset s p + (bytes Rid + bytes Low + bytes High) ≤ length s
+  pub room : runningOffset s p + (bytes Rid + bytes Low + bytes High) ≤ length s
   unfolding runningOffset
   room = rw (← ends-there) (offset-grows s (suc p) (countOf s) below)
 
-  fits-in : (m : Mechanism) → offsetIn (portAt s p .fpb) m + bytes m ≤ bytes Rid + bytes Low + bytes High
+  pub fits-in : (m : Mechanism) → offsetIn (portAt s p .fpb) m + bytes m ≤ bytes Rid + bytes Low + bytes High
   fits-in Rid = omega arith
   fits-in Low = omega arith
   fits-in High = omega arith

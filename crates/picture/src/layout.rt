@@ -5,7 +5,9 @@ use registers::Fpb;
 use registers::Mechanism;
 use registers::port_at;
 use registers::record_at;
+use registers::sizes_of;
 use registers::vector_bytes;
+use registers::vectors_start;
 ghost use mathlib.Core.Path.{_≡_};
 ghost use Prim.Native.Nat.{_≤_};
 ghost use Rattle.trees.specs.Trees.{countOf};
@@ -13,7 +15,7 @@ ghost use Rattle.picture.specs.Layout.{allBytes, offsetIn, vectorOf};
 ghost use Rattle.picture.specs.Reading.{misplacedIn};
 
 // The bytes of all vectors of a port.
-fn all_bytes(f: Fpb) -> u64
+pub fn all_bytes(f: Fpb) -> u64
     ensures { λ r. ⌜ r ≡ allBytes f ⌝ }
     ensures { λ r. ⌜ r ≤ 12288 ⌝ }
 {
@@ -45,7 +47,7 @@ pub fn misplaced(s: &[u8], n: u8) -> Found
 }
 
 // The bytes between the start of a port's vectors and one of them.
-fn offset_in(f: Fpb, m: Mechanism) -> u64
+pub fn offset_in(f: Fpb, m: Mechanism) -> u64
     ensures { λ r. ⌜ r ≡ offsetIn f m ⌝ }
     ensures { λ r. ⌜ r ≤ 8192 ⌝ }
 {
@@ -60,8 +62,7 @@ fn offset_in(f: Fpb, m: Mechanism) -> u64
 pub fn vector(s: &[u8], p: PortNo, m: Mechanism) -> &[u8]
     ensures { λ r. ⌜ now r ≡ vectorOf (now (s .entry)) (p .0) m ⌝ }
 {
-    let port = port_at(s, p);
-    let f = port.fpb;
-    let at = port.vectors_at as u64 + offset_in(f, m);
+    let f = sizes_of(s, p);
+    let at = vectors_start(s, p) as u64 + offset_in(f, m);
     lent::part(s, at as usize, vector_bytes(f, m) as usize)
 }

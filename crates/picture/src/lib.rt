@@ -3,6 +3,8 @@ mod headers;
 mod layout;
 
 use ids::PortNo;
+pub use layout::all_bytes;
+pub use layout::offset_in;
 pub use layout::vector;
 use least::Found;
 use registers::port_at;

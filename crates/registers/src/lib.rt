@@ -19,6 +19,8 @@ pub use records::kind_at;
 pub use records::own_id_at;
 pub use records::parent_at;
 pub use records::record_at;
+pub use records::sizes_of;
+pub use records::vectors_start;
 pub use rules::settings_wrong;
 pub use rules::start_wrong;
 pub use rules::with_ari;

@@ -1,9 +1,12 @@
 // Where a port's record starts, and the fields of it that the tree is made of, each by one read.
+use crate::Fpb;
 use ids::PortNo;
 use ids::Rid;
 ghost use mathlib.Core.Path.{_≡_};
 ghost use Prim.Native.Nat.{_<_, _^_};
+ghost use Rattle.registers.specs.declared.Mechanism.{Mechanism};
 ghost use Rattle.registers.specs.Record.{recordAt, portAt};
+ghost use Rattle.registers.specs.Vectors.{vectorBytes};
 
 // How many bytes come before the records, and how many each record has.
 pub const HEADER_BYTES: usize = 16;
@@ -31,6 +34,27 @@ pub fn parent_at(s: &[u8], p: PortNo) -> PortNo
     ensures { λ r. ⌜ r .0 ≡ portAt (now (s .entry)) (p .0) .parent .0 ⌝ }
 {
     PortNo(lent::u8_at(s, record_at(p.0 as usize) + 1))
+}
+
+// The FPB registers of port p as far as its vectors' sizes hang on them: Capabilities. The others are left 0.
+pub fn sizes_of(s: &[u8], p: PortNo) -> Fpb
+    ensures { λ r. ⌜ ((m : Mechanism) → vectorBytes r m ≡ vectorBytes (portAt (now (s .entry)) (p .0) .fpb) m) ⌝ }
+{
+    Fpb {
+        capabilities: lent::u32_at(s, record_at(p.0 as usize) + 28),
+        rid_control_1: 0,
+        rid_control_2: 0,
+        mem_low_control: 0,
+        mem_high_control_1: 0,
+        mem_high_control_2: 0,
+    }
+}
+
+// Where the vectors of port p start.
+pub fn vectors_start(s: &[u8], p: PortNo) -> u32
+    ensures { λ r. ⌜ r ≡ portAt (now (s .entry)) (p .0) .«vectors_at» ⌝ }
+{
+    lent::u32_at(s, record_at(p.0 as usize) + 52)
 }
 
 // The ID of port p itself.

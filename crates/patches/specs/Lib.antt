@@ -1,0 +1,5 @@
+pub mod Patch
+pub mod Reading
+pub mod Patched
+pub mod Parts
+pub mod Halves
