@@ -11,3 +11,6 @@ pub mod Ways
 pub mod Homeward
 pub mod Demand3
 pub mod Verdicts
+pub mod AlikeTrees
+pub mod Alike
+pub mod AlikeWalks

@@ -1,3 +1,4 @@
 pub mod Decoders
 pub mod Conversion
 pub mod Claims
+pub mod Over

@@ -16,9 +16,9 @@ use registers::with_ari;
 ghost use mathlib.Core.Path.{_≡_};
 ghost use Prim.Native.Nat.{_+_, _<_, _≤_};
 ghost use Rattle.registers.specs.Record.{portAt};
-ghost use Rattle.picture.specs.Layout.{vectorOf};
+ghost use Rattle.patches.specs.Halves.{vectorOver};
 ghost use Rattle.claims.specs.Conversion.{secondaryStart, numSecDev, inSecondaryRange, convertedByBus, converted};
-ghost use Rattle.claims.specs.Claims.{chassisOf};
+ghost use Rattle.claims.specs.Over.{chassisOver};
 
 // The unit where the Secondary range starts.
 fn secondary_start(f: Fpb) -> Unit
@@ -67,10 +67,10 @@ pub fn converted_by_bus(p: Port, rid: Rid) -> Conversion
 }
 
 // What port p makes of a configuration request for an ID.
-fn converted_id(s: &[u8], p: PortNo, rid: Rid) -> Conversion
-    ensures { λ r. ⌜ r ≡ converted (portAt (now (s .entry)) (p .0)) (vectorOf (now (s .entry)) (p .0)) (rid .0) ⌝ }
+fn converted_id<'a>(s: &'a [u8], patch: &'a [u8], p: PortNo, rid: Rid) -> Conversion
+    ensures { λ r. ⌜ r ≡ converted (portAt (now (s .entry)) (p .0)) (vectorOver (now (s .entry)) (now (patch .entry)) (p .0)) (rid .0) ⌝ }
 {
-    if claims_id(s, p, rid) {
+    if claims_id(s, patch, p, rid) {
         let port = port_at(s, p);
         let f = port.fpb;
         if enabled(f, Mechanism::Rid) & in_secondary_range(port, rid) {
@@ -82,11 +82,11 @@ fn converted_id(s: &[u8], p: PortNo, rid: Rid) -> Conversion
 }
 
 // What port p makes of a configuration request; an address is the target of none.
-pub fn conversion(s: &[u8], p: PortNo, t: Target) -> Conversion
-    ensures { λ r. ⌜ r ≡ chassisOf (now (s .entry)) .conversion (p .0) t ⌝ }
+pub fn conversion<'a>(s: &'a [u8], patch: &'a [u8], p: PortNo, t: Target) -> Conversion
+    ensures { λ r. ⌜ r ≡ chassisOver (now (s .entry)) (now (patch .entry)) .conversion (p .0) t ⌝ }
 {
     match t {
-        Target::Id(rid) => converted_id(s, p, rid),
+        Target::Id(rid) => converted_id(s, patch, p, rid),
         Target::Addr(_) => Conversion::NotClaimed,
     }
 }

@@ -17,20 +17,23 @@ pub use decoders::vector_claims;
 use ids::PortNo;
 use ids::Rid;
 use ids::Target;
-use picture::vector;
+use patches::vector;
 use registers::Mechanism;
 use registers::own_id_at;
 use registers::port_at;
+ghost use Prim.Native.Nat.{ℕ};
+ghost use mathlib.Core.List.{List};
 ghost use mathlib.Core.Path.{_≡_};
 ghost use Rattle.chassis.specs.Chassis.{isOwn, holds};
 ghost use Rattle.registers.specs.Record.{portAt};
-ghost use Rattle.picture.specs.Layout.{vectorOf};
+ghost use Rattle.registers.specs.Rules.{withAri};
+ghost use Rattle.patches.specs.Halves.{vectorOver};
 ghost use Rattle.claims.specs.Decoders.{claimsId, claimsAddress};
-ghost use Rattle.claims.specs.Claims.{chassisOf};
+ghost use Rattle.claims.specs.Over.{chassisOver};
 
 // Whether port p claims an ID: by its bus pair, or by its RID vector.
-pub fn claims_id(s: &[u8], p: PortNo, rid: Rid) -> bool
-    ensures { λ r. ⌜ r ≡ claimsId (portAt (now (s .entry)) (p .0)) (vectorOf (now (s .entry)) (p .0)) (rid .0) ⌝ }
+pub fn claims_id<'a>(s: &'a [u8], patch: &'a [u8], p: PortNo, rid: Rid) -> bool
+    ensures { λ r. ⌜ r ≡ claimsId (portAt (now (s .entry)) (p .0)) (vectorOver (now (s .entry)) (now (patch .entry)) (p .0)) (rid .0) ⌝ }
 {
     let port = port_at(s, p);
     let b = port.bridge;
@@ -39,14 +42,14 @@ pub fn claims_id(s: &[u8], p: PortNo, rid: Rid) -> bool
         | vector_claims(
             f,
             Mechanism::Rid,
-            vector(s, p, Mechanism::Rid),
+            vector(s, patch, p, Mechanism::Rid),
             rid.0 as u64,
         )
 }
 
 // Whether port p claims an address: by one of the memory decoders, with Memory Space Enable set.
-fn claims_address(s: &[u8], p: PortNo, a: u64) -> bool
-    ensures { λ r. ⌜ r ≡ claimsAddress (portAt (now (s .entry)) (p .0)) (vectorOf (now (s .entry)) (p .0)) a ⌝ }
+fn claims_address<'a>(s: &'a [u8], patch: &'a [u8], p: PortNo, a: u64) -> bool
+    ensures { λ r. ⌜ r ≡ claimsAddress (portAt (now (s .entry)) (p .0)) (vectorOver (now (s .entry)) (now (patch .entry)) (p .0)) a ⌝ }
 {
     let port = port_at(s, p);
     let b = port.bridge;
@@ -54,23 +57,23 @@ fn claims_address(s: &[u8], p: PortNo, a: u64) -> bool
     memory_space_enabled(b)
         & (memory_claims(b, a)
             | prefetchable_claims(b, a)
-            | low_claims(f, vector(s, p, Mechanism::Low), a)
-            | high_claims(f, vector(s, p, Mechanism::High), a))
+            | low_claims(f, vector(s, patch, p, Mechanism::Low), a)
+            | high_claims(f, vector(s, patch, p, Mechanism::High), a))
 }
 
 // Whether at least one decoder of port p claims the target.
-pub fn claims(s: &[u8], p: PortNo, t: Target) -> bool
-    ensures { λ r. ⌜ r ≡ chassisOf (now (s .entry)) .claims (p .0) t ⌝ }
+pub fn claims<'a>(s: &'a [u8], patch: &'a [u8], p: PortNo, t: Target) -> bool
+    ensures { λ r. ⌜ r ≡ chassisOver (now (s .entry)) (now (patch .entry)) .claims (p .0) t ⌝ }
 {
     match t {
-        Target::Id(rid) => claims_id(s, p, rid),
-        Target::Addr(a) => claims_address(s, p, a),
+        Target::Id(rid) => claims_id(s, patch, p, rid),
+        Target::Addr(a) => claims_address(s, patch, p, a),
     }
 }
 
-// Whether the target is the ID of port p itself.
+// Whether the target is the ID of port p itself, whatever the patch.
 pub fn is_own(s: &[u8], p: PortNo, t: Target) -> bool
-    ensures { λ r. ⌜ r ≡ isOwn (chassisOf (now (s .entry))) t (p .0) ⌝ }
+    ensures { λ r. ⌜ ((patch : List ℕ) → r ≡ isOwn (chassisOver (now (s .entry)) patch) t (p .0)) ⌝ }
 {
     match t {
         Target::Id(rid) => own_id_at(s, p).0 == rid.0,
@@ -79,15 +82,15 @@ pub fn is_own(s: &[u8], p: PortNo, t: Target) -> bool
 }
 
 // Whether the target is port p's own or claimed by it.
-pub fn holds(s: &[u8], p: PortNo, t: Target) -> bool
-    ensures { λ r. ⌜ r ≡ holds (chassisOf (now (s .entry))) t (p .0) ⌝ }
+pub fn holds<'a>(s: &'a [u8], patch: &'a [u8], p: PortNo, t: Target) -> bool
+    ensures { λ r. ⌜ r ≡ holds (chassisOver (now (s .entry)) (now (patch .entry))) t (p .0) ⌝ }
 {
-    is_own(s, p, t) | claims(s, p, t)
+    is_own(s, p, t) | claims(s, patch, p, t)
 }
 
 // Whether port p forwards with ARI.
 pub fn with_ari_at(s: &[u8], p: PortNo) -> bool
-    ensures { λ r. ⌜ r ≡ chassisOf (now (s .entry)) .ari (p .0) ⌝ }
+    ensures { λ r. ⌜ r ≡ withAri (portAt (now (s .entry)) (p .0)) ⌝ }
 {
     registers::with_ari(port_at(s, p))
 }

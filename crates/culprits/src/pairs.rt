@@ -10,7 +10,7 @@ ghost use mathlib.Core.Path.{_≡_};
 ghost use Rattle.chassis.specs.declared.Fault.the-variants.{Shared};
 ghost use Rattle.chassis.specs.Check.{clash, faulty};
 ghost use Rattle.trees.specs.Trees.{countOf};
-ghost use Rattle.claims.specs.Claims.{chassisOf};
+ghost use Rattle.claims.specs.Over.{chassisOver};
 ghost use Rattle.culprits.specs.Culprits.{pairAt};
 
 pub struct Pair {
@@ -19,29 +19,29 @@ pub struct Pair {
 }
 
 // Whether two siblings hold the target, or a port claims its own ID.
-fn clashes(s: &[u8], t: Target, p: PortNo, q: PortNo) -> bool
-    ensures { λ r. ⌜ r ≡ clash (chassisOf (now (s .entry))) t (p .0) (q .0) ⌝ }
+fn clashes<'a>(s: &'a [u8], patch: &'a [u8], t: Target, p: PortNo, q: PortNo) -> bool
+    ensures { λ r. ⌜ r ≡ clash (chassisOver (now (s .entry)) (now (patch .entry))) t (p .0) (q .0) ⌝ }
 {
     if p.0 == q.0 {
-        return is_own(s, p, t) & claims(s, p, t);
+        return is_own(s, p, t) & claims(s, patch, p, t);
     }
     if parent_at(s, p).0 == parent_at(s, q).0 {
-        return holds(s, p, t) & holds(s, q, t);
+        return holds(s, patch, p, t) & holds(s, patch, q, t);
     }
     false
 }
 
 // The first pair at a target that is shared, by first port and then second, a port with itself tried too.
-pub fn first_pair(s: &[u8], n: u8, t: Target) -> Pair
+pub fn first_pair<'a>(s: &'a [u8], patch: &'a [u8], n: u8, t: Target) -> Pair
     requires { ⌜ n ≡ countOf (now s) ⌝ }
-    requires { ⌜ faulty Shared (chassisOf (now s)) t ≡ true ⌝ }
-    ensures { λ r. ⌜ r ≡ pairAt (chassisOf (now (s .entry))) t ⌝ }
+    requires { ⌜ faulty Shared (chassisOver (now s) (now patch)) t ≡ true ⌝ }
+    ensures { λ r. ⌜ r ≡ pairAt (chassisOver (now (s .entry)) (now (patch .entry))) t ⌝ }
 {
     let mut p: u8 = 0;
     'ports: loop {
         let mut q: u8 = 0;
         while q < n {
-            if clashes(s, t, PortNo(p), PortNo(q)) {
+            if clashes(s, patch, t, PortNo(p), PortNo(q)) {
                 break 'ports Pair {
                     first: PortNo(p),
                     second: PortNo(q),

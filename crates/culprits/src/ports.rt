@@ -14,7 +14,7 @@ ghost use mathlib.Core.Path.{_≡_};
 ghost use Rattle.least.specs.Least.{firstIn};
 ghost use Rattle.chassis.specs.Check.{straysAt, isType0, ownIdLost, lowestPort};
 ghost use Rattle.trees.specs.Trees.{countOf};
-ghost use Rattle.claims.specs.Claims.{chassisOf};
+ghost use Rattle.claims.specs.Over.{chassisOver};
 ghost use Rattle.culprits.specs.Culprits.{hasFault};
 
 // What may be wrong with a port by itself.
@@ -24,10 +24,10 @@ pub enum PortFault {
 }
 
 // Whether port p is no root port and holds a target that its parent does not claim.
-fn strays_at(s: &[u8], t: Target, p: PortNo) -> bool
-    ensures { λ r. ⌜ r ≡ straysAt (chassisOf (now (s .entry))) t (p .0) ⌝ }
+fn strays_at<'a>(s: &'a [u8], patch: &'a [u8], t: Target, p: PortNo) -> bool
+    ensures { λ r. ⌜ r ≡ straysAt (chassisOver (now (s .entry)) (now (patch .entry))) t (p .0) ⌝ }
 {
-    (kind_at(s, p) != ROOT_PORT) & holds(s, p, t) & !claims(s, parent_at(s, p), t)
+    (kind_at(s, p) != ROOT_PORT) & holds(s, patch, p, t) & !claims(s, patch, parent_at(s, p), t)
 }
 
 // Whether a conversion is Type 0.
@@ -43,32 +43,33 @@ fn is_type0(made: Conversion) -> bool
 }
 
 // Whether port p is no root port and its parent does not claim its own ID and convert it to Type 0.
-fn own_id_lost(s: &[u8], p: PortNo) -> bool
-    ensures { λ r. ⌜ r ≡ ownIdLost (chassisOf (now (s .entry))) (p .0) ⌝ }
+fn own_id_lost<'a>(s: &'a [u8], patch: &'a [u8], p: PortNo) -> bool
+    ensures { λ r. ⌜ r ≡ ownIdLost (chassisOver (now (s .entry)) (now (patch .entry))) (p .0) ⌝ }
 {
     let parent = parent_at(s, p);
     let own = Target::Id(own_id_at(s, p));
-    (kind_at(s, p) != ROOT_PORT) & !(claims(s, parent, own) & is_type0(conversion(s, parent, own)))
+    (kind_at(s, p) != ROOT_PORT)
+        & !(claims(s, patch, parent, own) & is_type0(conversion(s, patch, parent, own)))
 }
 
 // Whether a port has a fault.
-fn has_fault(s: &[u8], fault: PortFault, p: PortNo) -> bool
-    ensures { λ r. ⌜ r ≡ hasFault fault (chassisOf (now (s .entry))) (p .0) ⌝ }
+fn has_fault<'a>(s: &'a [u8], patch: &'a [u8], fault: PortFault, p: PortNo) -> bool
+    ensures { λ r. ⌜ r ≡ hasFault fault (chassisOver (now (s .entry)) (now (patch .entry))) (p .0) ⌝ }
 {
     match fault {
-        PortFault::Stray(t) => strays_at(s, t, p),
-        PortFault::Lost => own_id_lost(s, p),
+        PortFault::Stray(t) => strays_at(s, patch, t, p),
+        PortFault::Lost => own_id_lost(s, patch, p),
     }
 }
 
 // The lowest of n ports that has a fault.
-pub fn lowest(s: &[u8], n: u8, fault: PortFault) -> Found
+pub fn lowest<'a>(s: &'a [u8], patch: &'a [u8], n: u8, fault: PortFault) -> Found
     requires { ⌜ n ≡ countOf (now s) ⌝ }
-    ensures { λ r. ⌜ r ≡ firstIn (hasFault fault (chassisOf (now (s .entry)))) 0 (countOf (now (s .entry))) ⌝ }
+    ensures { λ r. ⌜ r ≡ firstIn (hasFault fault (chassisOver (now (s .entry)) (now (patch .entry)))) 0 (countOf (now (s .entry))) ⌝ }
 {
     let mut p: u8 = 0;
     while p < n {
-        if has_fault(s, fault, PortNo(p)) {
+        if has_fault(s, patch, fault, PortNo(p)) {
             return Found::At(p as u64);
         }
         p += 1;
@@ -77,11 +78,11 @@ pub fn lowest(s: &[u8], n: u8, fault: PortFault) -> Found
 }
 
 // The lowest of n ports that strays at a target; 255 where none does.
-pub fn lowest_stray(s: &[u8], n: u8, t: Target) -> PortNo
+pub fn lowest_stray<'a>(s: &'a [u8], patch: &'a [u8], n: u8, t: Target) -> PortNo
     requires { ⌜ n ≡ countOf (now s) ⌝ }
-    ensures { λ r. ⌜ r ≡ lowestPort (chassisOf (now (s .entry))) (straysAt (chassisOf (now (s .entry))) t) ⌝ }
+    ensures { λ r. ⌜ r ≡ lowestPort (chassisOver (now (s .entry)) (now (patch .entry))) (straysAt (chassisOver (now (s .entry)) (now (patch .entry))) t) ⌝ }
 {
-    match lowest(s, n, PortFault::Stray(t)) {
+    match lowest(s, patch, n, PortFault::Stray(t)) {
         Found::At(p) => PortNo(p as u8),
         Found::Nothing => PortNo::NONE,
     }

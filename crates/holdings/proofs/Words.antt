@@ -20,9 +20,8 @@ use Rattle.registers.specs.declared.Mechanism.{Mechanism}
 use Rattle.registers.specs.declared.Mechanism.the-variants.{Rid, Low, High}
 use Rattle.registers.specs.Record.{portAt}
 use Rattle.registers.specs.Vectors.{enabledIn, settingsOf}
-use Rattle.picture.specs.Layout.{vectorOf}
 use Rattle.claims.specs.Decoders.{between, baseOf, busClaims, vectorClaims, memoryClaims, prefetchableClaims, lowClaims, highClaims, memorySpaceEnabled, claimsId, claimsAddress}
-use Rattle.claims.specs.Claims.{chassisOf}
+use Rattle.claims.specs.Claims.{chassisWith}
 use Rattle.spans.specs.declared.Reach.{Reach}
 use Rattle.spans.specs.Ranges.{inRange}
 use Rattle.spans.specs.Grids.{hitIn}
@@ -108,12 +107,12 @@ module _ (p : Port) (vector : Mechanism → List ℕ) (own claims : Bool) where
       )
       (four-ways on _ _ _ _ ∙ and-assoc claims (memorySpaceEnabled (p .bridge)) _)
 
--- for a picture's port, in either space
-pub reach-words : (s : List ℕ) (n : ℕ) (space : Space) (own claims : Bool) (t : ℕ) → t < spaceSize space
-    → reaches (reachOf (portAt s n) space own claims) (vectorOf s n (oneOf space)) (vectorOf s n High) t
-    ≡ (own && isOwn (chassisOf s) (targetIn space t) n || claims && chassisOf s .claims n (targetIn space t))
-reach-words s n Ids own claims t l = id-words (portAt s n) (vectorOf s n) own claims t l
-reach-words s n Addresses own claims t l = rw and-false (address-words (portAt s n) (vectorOf s n) own claims t l)
+-- for a picture's port with these vectors, in either space
+pub reach-words : (s : List ℕ) (vector : ℕ → Mechanism → List ℕ) (n : ℕ) (space : Space) (own claims : Bool) (t : ℕ) → t < spaceSize space
+    → reaches (reachOf (portAt s n) space own claims) (vector n (oneOf space)) (vector n High) t
+    ≡ (own && isOwn (chassisWith s vector) (targetIn space t) n || claims && chassisWith s vector .claims n (targetIn space t))
+reach-words s vector n Ids own claims t l = id-words (portAt s n) (vector n) own claims t l
+reach-words s vector n Addresses own claims t l = rw and-false (address-words (portAt s n) (vector n) own claims t l)
 
 -- nothing at or above a space's size is reached
 pub none-past : (space : Space) (d : Reach) (v w : List ℕ) → endsIn space d → (t : ℕ) → spaceSize space ≤ t → reaches d v w t ≡ false

@@ -10,10 +10,10 @@ use Rattle.least.specs.Least.{firstIn}
 use Rattle.least.proofs.Laws.{first-below, first-agree}
 use Rattle.chassis.specs.Chassis.{spaceSize}
 use Rattle.chassis.specs.Check.{testIn, leastTarget}
+use Rattle.registers.specs.declared.Mechanism.{Mechanism}
 use Rattle.registers.specs.declared.Mechanism.the-variants.{High}
 use Rattle.registers.specs.Record.{portAt}
-use Rattle.picture.specs.Layout.{vectorOf}
-use Rattle.claims.specs.Claims.{chassisOf}
+use Rattle.claims.specs.Claims.{chassisWith}
 use Rattle.spans.specs.declared.Reach.{Reach}
 use Rattle.spans.specs.Reaches.{reaches}
 use Rattle.search.specs.Search.{reachesIs, meets}
@@ -30,20 +30,20 @@ space-size Addresses = omega arith
 abbrev reachFor : List ℕ → Space → Holding → Reach
 reachFor s space h = reachOf (portAt s (h .port .0)) space (h .own) (h .claims)
 
-module _ (s : List ℕ) (space : Space) where
+module _ (s : List ℕ) (vector : ℕ → Mechanism → List ℕ) (space : Space) where
   abbrev one : Holding → List ℕ
-  one h = vectorOf s (h .port .0) (oneOf space)
+  one h = vector (h .port .0) (oneOf space)
 
   abbrev other : Holding → List ℕ
-  other h = vectorOf s (h .port .0) High
+  other h = vector (h .port .0) High
 
-  has-words : (h : Holding) (t : ℕ) → t < spaceSize space → reaches (reachFor s space h) (one h) (other h) t ≡ testIn (has (chassisOf s) h) space t
+  has-words : (h : Holding) (t : ℕ) → t < spaceSize space → reaches (reachFor s space h) (one h) (other h) t ≡ testIn (has (chassisWith s vector) h) space t
   unfolding has testIn
-  has-words h t l = reach-words s (h .port .0) space (h .own) (h .claims) t l
+  has-words h t l = reach-words s vector (h .port .0) space (h .own) (h .claims) t l
 
   module _ (a b : Holding) (want : Bool) where
     pub meets-first : {d e : Reach} → d ≡ reachFor s space a → e ≡ reachFor s space b → endsIn space d
-        → firstIn (meets d (one a) (other a) e (one b) (other b) want) 0 (2 ^ 64) ≡ leastTarget (meeting (chassisOf s) a b want) space
+        → firstIn (meets d (one a) (other a) e (one b) (other b) want) 0 (2 ^ 64) ≡ leastTarget (meeting (chassisWith s vector) a b want) space
     unfolding meets reachesIs meeting testIn
     meets-first {d} {e} x y ends =
         sym (first-below 0 (space-size space) (record { none = λ t l h. rw (none-past space d _ _ ends t l) }))

@@ -9,31 +9,39 @@ ghost use mathlib.Core.Path.{_≡_};
 ghost use Prim.Native.Nat.{_+_, _<_};
 ghost use Rattle.chassis.specs.Check.{faulty, leastTarget};
 ghost use Rattle.trees.specs.Trees.{countOf};
-ghost use Rattle.claims.specs.Claims.{chassisOf};
+ghost use Rattle.claims.specs.Over.{chassisOver};
 ghost use Rattle.overlaps.specs.Overlaps.{faultyTo};
 
 // The best so far, after port p was tried.
-fn with_port(s: &[u8], n: u8, fault: Fault, space: Space, p: u8, best: Found) -> Found
+fn with_port<'a>(
+    s: &'a [u8],
+    patch: &'a [u8],
+    n: u8,
+    fault: Fault,
+    space: Space,
+    p: u8,
+    best: Found,
+) -> Found
     requires { ⌜ n ≡ countOf (now s) ⌝ }
     requires { ⌜ p < n ⌝ }
-    requires { ⌜ best ≡ leastTarget (faultyTo fault (chassisOf (now s)) p) space ⌝ }
-    ensures { λ r. ⌜ r ≡ leastTarget (faultyTo fault (chassisOf (now (s .entry))) (p + 1)) space ⌝ }
+    requires { ⌜ best ≡ leastTarget (faultyTo fault (chassisOver (now s) (now patch)) p) space ⌝ }
+    ensures { λ r. ⌜ r ≡ leastTarget (faultyTo fault (chassisOver (now (s .entry)) (now (patch .entry))) (p + 1)) space ⌝ }
 {
     match fault {
-        Fault::Shared => with_pairs(s, n, space, p, best),
-        Fault::Stray => with_child(s, space, PortNo(p), best),
+        Fault::Shared => with_pairs(s, patch, n, space, p, best),
+        Fault::Stray => with_child(s, patch, space, PortNo(p), best),
     }
 }
 
 // The least target of a space at which one of n ports is at fault.
-pub fn least_fault(s: &[u8], n: u8, fault: Fault, space: Space) -> Found
+pub fn least_fault<'a>(s: &'a [u8], patch: &'a [u8], n: u8, fault: Fault, space: Space) -> Found
     requires { ⌜ n ≡ countOf (now s) ⌝ }
-    ensures { λ r. ⌜ r ≡ leastTarget (faulty fault (chassisOf (now (s .entry)))) space ⌝ }
+    ensures { λ r. ⌜ r ≡ leastTarget (faulty fault (chassisOver (now (s .entry)) (now (patch .entry)))) space ⌝ }
 {
     let mut best = Found::Nothing;
     let mut p: u8 = 0;
     while p < n {
-        best = with_port(s, n, fault, space, p, best);
+        best = with_port(s, patch, n, fault, space, p, best);
         p += 1;
     }
     best

@@ -4,12 +4,12 @@ use holdings::reach_at;
 use ids::PortNo;
 use ids::Space;
 use least::Found;
-use picture::vector;
+use patches::vector;
 use registers::Mechanism;
 ghost use mathlib.Core.Path.{_≡_};
 ghost use Rattle.least.specs.Least.{soonest};
 ghost use Rattle.chassis.specs.Check.{leastTarget};
-ghost use Rattle.claims.specs.Claims.{chassisOf};
+ghost use Rattle.claims.specs.Over.{chassisOver};
 ghost use Rattle.overlaps.specs.Overlaps.{meeting};
 
 // What of a port is looked at: its own ID, its claims, or both.
@@ -20,26 +20,27 @@ pub struct Holding {
 }
 
 // The least target of a space that a has, and that b has or does not, as is wanted; or the best so far, if that is lower.
-pub fn least_meeting(
-    s: &[u8],
+pub fn least_meeting<'a>(
+    s: &'a [u8],
+    patch: &'a [u8],
     space: Space,
     a: Holding,
     b: Holding,
     want: bool,
     best: Found,
 ) -> Found
-    ensures { λ r. ⌜ r ≡ soonest best (leastTarget (meeting (chassisOf (now (s .entry))) a b want) space) ⌝ }
+    ensures { λ r. ⌜ r ≡ soonest best (leastTarget (meeting (chassisOver (now (s .entry)) (now (patch .entry))) a b want) space) ⌝ }
 {
     let m = one_of(space);
     let p = a.port;
     let q = b.port;
     search::least_both(
         reach_at(s, p, space, a.own, a.claims),
-        vector(s, p, m),
-        vector(s, p, Mechanism::High),
+        vector(s, patch, p, m),
+        vector(s, patch, p, Mechanism::High),
         reach_at(s, q, space, b.own, b.claims),
-        vector(s, q, m),
-        vector(s, q, Mechanism::High),
+        vector(s, patch, q, m),
+        vector(s, patch, q, Mechanism::High),
         want,
         best,
     )

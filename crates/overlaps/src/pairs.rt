@@ -11,12 +11,19 @@ ghost use Rattle.least.specs.Least.{soonest};
 ghost use Rattle.chassis.specs.declared.Fault.the-variants.{Shared};
 ghost use Rattle.chassis.specs.Check.{leastTarget};
 ghost use Rattle.trees.specs.Trees.{countOf};
-ghost use Rattle.claims.specs.Claims.{chassisOf};
+ghost use Rattle.claims.specs.Over.{chassisOver};
 ghost use Rattle.overlaps.specs.Overlaps.{clashOf, faultyTo};
 
 // The best so far, after ports p and q were tried; a port with itself is its own ID against its claims.
-fn with_pair(s: &[u8], space: Space, p: PortNo, q: PortNo, best: Found) -> Found
-    ensures { λ r. ⌜ r ≡ soonest best (leastTarget (clashOf (chassisOf (now (s .entry))) (p .0) (q .0)) space) ⌝ }
+fn with_pair<'a>(
+    s: &'a [u8],
+    patch: &'a [u8],
+    space: Space,
+    p: PortNo,
+    q: PortNo,
+    best: Found,
+) -> Found
+    ensures { λ r. ⌜ r ≡ soonest best (leastTarget (clashOf (chassisOver (now (s .entry)) (now (patch .entry))) (p .0) (q .0)) space) ⌝ }
 {
     if parent_at(s, p).0 == parent_at(s, q).0 {
         let apart = p.0 != q.0;
@@ -30,23 +37,30 @@ fn with_pair(s: &[u8], space: Space, p: PortNo, q: PortNo, best: Found) -> Found
             own: apart,
             claims: true,
         };
-        least_meeting(s, space, a, b, true, best)
+        least_meeting(s, patch, space, a, b, true, best)
     } else {
         best
     }
 }
 
 // The best so far, after port p was tried with itself and with each later one; the earlier ones were tried with it.
-pub fn with_pairs(s: &[u8], n: u8, space: Space, p: u8, best: Found) -> Found
+pub fn with_pairs<'a>(
+    s: &'a [u8],
+    patch: &'a [u8],
+    n: u8,
+    space: Space,
+    p: u8,
+    best: Found,
+) -> Found
     requires { ⌜ n ≡ countOf (now s) ⌝ }
     requires { ⌜ p < n ⌝ }
-    requires { ⌜ best ≡ leastTarget (faultyTo Shared (chassisOf (now s)) p) space ⌝ }
-    ensures { λ r. ⌜ r ≡ leastTarget (faultyTo Shared (chassisOf (now (s .entry))) (p + 1)) space ⌝ }
+    requires { ⌜ best ≡ leastTarget (faultyTo Shared (chassisOver (now s) (now patch)) p) space ⌝ }
+    ensures { λ r. ⌜ r ≡ leastTarget (faultyTo Shared (chassisOver (now (s .entry)) (now (patch .entry))) (p + 1)) space ⌝ }
 {
     let mut found = best;
     let mut q: u8 = p;
     while q < n {
-        found = with_pair(s, space, PortNo(p), PortNo(q), found);
+        found = with_pair(s, patch, space, PortNo(p), PortNo(q), found);
         q += 1;
     }
     found

@@ -10,7 +10,7 @@ ghost use mathlib.Core.Path.{_≡_};
 ghost use Rattle.chassis.proofs.Steps.{Within};
 ghost use Rattle.chassis.proofs.Tree.{Sane};
 ghost use Rattle.trees.specs.Trees.{countOf, treeOf};
-ghost use Rattle.claims.specs.Claims.{chassisOf};
+ghost use Rattle.claims.specs.Over.{chassisOver};
 ghost use Rattle.routes.specs.Routes.{Arrives};
 
 // The ports crossed and the end.
@@ -20,16 +20,22 @@ pub struct Walked {
 }
 
 // A packet's way from its start to its end.
-pub fn walk_from(s: &[u8], n: u8, packet: Packet, start: Whereabouts) -> Walked
+pub fn walk_from<'a>(
+    s: &'a [u8],
+    patch: &'a [u8],
+    n: u8,
+    packet: Packet,
+    start: Whereabouts,
+) -> Walked
     requires { ⌜ n ≡ countOf (now s) ⌝ }
     requires { ⌜ Sane (treeOf (now s)) ⌝ }
-    requires { ⌜ Within (chassisOf (now s)) start ⌝ }
-    ensures { λ r. ⌜ Arrives (chassisOf (now (s .entry))) packet start r ⌝ }
+    requires { ⌜ Within (chassisOver (now s) (now patch)) start ⌝ }
+    ensures { λ r. ⌜ Arrives (chassisOver (now (s .entry)) (now (patch .entry))) packet start r ⌝ }
 {
     let mut path = Path::new();
     let mut whereabouts = start;
     loop {
-        match steps::step(s, n, packet, whereabouts) {
+        match steps::step(s, patch, n, packet, whereabouts) {
             Step::Stop(end) => return Walked { path, end },
             Step::Cross(p, beyond) => {
                 path = path.crossed(p);

@@ -9,12 +9,14 @@ use holders::Regard;
 use holders::lowest_at;
 use ids::PortNo;
 use ids::Target;
+ghost use Prim.Native.Nat.{ℕ};
+ghost use mathlib.Core.List.{List};
 ghost use mathlib.Core.Path.{_≡_};
 ghost use Rattle.chassis.specs.Tree.{root};
 ghost use Rattle.chassis.specs.Walk.{targetOf, functionNumber, decided, soleHolder, deviceOr, comeTo, next};
 ghost use Rattle.chassis.specs.Walk.{downward as Walk·downward, upward as Walk·upward, fromBelow, underType0, underType1, atPlace};
 ghost use Rattle.trees.specs.Trees.{countOf};
-ghost use Rattle.claims.specs.Claims.{chassisOf};
+ghost use Rattle.claims.specs.Over.{chassisOver};
 
 // What a packet is sent to.
 fn target_of(packet: Packet) -> Target
@@ -26,9 +28,9 @@ fn target_of(packet: Packet) -> Target
     }
 }
 
-// The Function number of a configuration request that ends at a port's device.
+// The Function number of a configuration request that ends at a port's device, whatever the patch.
 fn function_number(s: &[u8], q: PortNo, t: Target) -> u8
-    ensures { λ r. ⌜ r ≡ functionNumber (chassisOf (now (s .entry))) (q .0) t ⌝ }
+    ensures { λ r. ⌜ ((patch : List ℕ) → r ≡ functionNumber (chassisOver (now (s .entry)) patch) (q .0) t) ⌝ }
 {
     let Target::Id(rid) = t else {
         return 0;
@@ -53,29 +55,29 @@ fn decide(p: PortNo, conversion: Conversion) -> Step
 }
 
 // Crossing a port downward.
-fn downward(s: &[u8], packet: Packet, p: PortNo) -> Step
-    ensures { λ r. ⌜ r ≡ Walk·downward (chassisOf (now (s .entry))) packet p ⌝ }
+fn downward<'a>(s: &'a [u8], patch: &'a [u8], packet: Packet, p: PortNo) -> Step
+    ensures { λ r. ⌜ r ≡ Walk·downward (chassisOver (now (s .entry)) (now (patch .entry))) packet p ⌝ }
 {
     match packet {
         Packet::Plain(_) => Step::Cross(p, Whereabouts::Into(p)),
-        Packet::Config(rid) => decide(p, claims::conversion(s, p, Target::Id(rid))),
+        Packet::Config(rid) => decide(p, claims::conversion(s, patch, p, Target::Id(rid))),
     }
 }
 
 // Rule 2.
-fn sole_holder(s: &[u8], packet: Packet, p: PortNo) -> Step
-    ensures { λ r. ⌜ r ≡ soleHolder (chassisOf (now (s .entry))) packet p ⌝ }
+fn sole_holder<'a>(s: &'a [u8], patch: &'a [u8], packet: Packet, p: PortNo) -> Step
+    ensures { λ r. ⌜ r ≡ soleHolder (chassisOver (now (s .entry)) (now (patch .entry))) packet p ⌝ }
 {
     if claims::is_own(s, p, target_of(packet)) {
         return Step::Stop(End::Function(p));
     }
-    downward(s, packet, p)
+    downward(s, patch, packet, p)
 }
 
-// Rule 4, and what Type 0 comes to where no own ID is the target.
+// Rule 4, and what Type 0 comes to where no own ID is the target, whatever the patch.
 fn device_or(s: &[u8], n: u8, q: PortNo, function: u8) -> Step
     requires { ⌜ n ≡ countOf (now s) ⌝ }
-    ensures { λ r. ⌜ r ≡ deviceOr (chassisOf (now (s .entry))) q function ⌝ }
+    ensures { λ r. ⌜ ((patch : List ℕ) → r ≡ deviceOr (chassisOver (now (s .entry)) patch) q function) ⌝ }
 {
     if trees::is_device_port(s, n, q) {
         Step::Stop(End::Device(q, function))
@@ -96,10 +98,10 @@ fn come_to(place: PortNo) -> Whereabouts
 }
 
 // Rule 5.
-fn upward(s: &[u8], t: Target, q: PortNo) -> Step
-    ensures { λ r. ⌜ r ≡ Walk·upward (chassisOf (now (s .entry))) t q ⌝ }
+fn upward<'a>(s: &'a [u8], patch: &'a [u8], t: Target, q: PortNo) -> Step
+    ensures { λ r. ⌜ r ≡ Walk·upward (chassisOver (now (s .entry)) (now (patch .entry))) t q ⌝ }
 {
-    if claims::claims(s, q, t) {
+    if claims::claims(s, patch, q, t) {
         Step::Stop(End::Unsupported(q))
     } else {
         Step::Cross(q, come_to(registers::parent_at(s, q)))
@@ -107,50 +109,50 @@ fn upward(s: &[u8], t: Target, q: PortNo) -> Step
 }
 
 // At the root: rules 1 to 3.
-fn at_root(s: &[u8], n: u8, packet: Packet) -> Step
+fn at_root<'a>(s: &'a [u8], patch: &'a [u8], n: u8, packet: Packet) -> Step
     requires { ⌜ n ≡ countOf (now s) ⌝ }
-    ensures { λ r. ⌜ r ≡ atPlace (chassisOf (now (s .entry))) packet root (Step.Stop End.Host) ⌝ }
+    ensures { λ r. ⌜ r ≡ atPlace (chassisOver (now (s .entry)) (now (patch .entry))) packet root (Step.Stop End.Host) ⌝ }
 {
-    match lowest_at(s, n, PortNo::ROOT, target_of(packet), Regard::Held) {
+    match lowest_at(s, patch, n, PortNo::ROOT, target_of(packet), Regard::Held) {
         Holders::Nobody => Step::Stop(End::Host),
-        Holders::Only(p) => sole_holder(s, packet, p),
+        Holders::Only(p) => sole_holder(s, patch, packet, p),
         Holders::Both(p, q) => Step::Stop(End::Doubled(p, q)),
     }
 }
 
 // Below a port, come from above: rules 1, 2 and 4.
-fn from_above(s: &[u8], n: u8, packet: Packet, q: PortNo) -> Step
+fn from_above<'a>(s: &'a [u8], patch: &'a [u8], n: u8, packet: Packet, q: PortNo) -> Step
     requires { ⌜ n ≡ countOf (now s) ⌝ }
-    ensures { λ r. ⌜ r ≡ atPlace (chassisOf (now (s .entry))) packet (q .0) (deviceOr (chassisOf (now (s .entry))) q 0) ⌝ }
+    ensures { λ r. ⌜ r ≡ atPlace (chassisOver (now (s .entry)) (now (patch .entry))) packet (q .0) (deviceOr (chassisOver (now (s .entry)) (now (patch .entry))) q 0) ⌝ }
 {
-    match lowest_at(s, n, q, target_of(packet), Regard::Held) {
+    match lowest_at(s, patch, n, q, target_of(packet), Regard::Held) {
         Holders::Nobody => device_or(s, n, q, 0),
-        Holders::Only(p) => sole_holder(s, packet, p),
+        Holders::Only(p) => sole_holder(s, patch, packet, p),
         Holders::Both(p, r) => Step::Stop(End::Doubled(p, r)),
     }
 }
 
 // Below a port, started or come from below: rules 1, 2 and 5.
-fn from_below(s: &[u8], n: u8, packet: Packet, q: PortNo) -> Step
+fn from_below<'a>(s: &'a [u8], patch: &'a [u8], n: u8, packet: Packet, q: PortNo) -> Step
     requires { ⌜ n ≡ countOf (now s) ⌝ }
-    ensures { λ r. ⌜ r ≡ fromBelow (chassisOf (now (s .entry))) packet q ⌝ }
+    ensures { λ r. ⌜ r ≡ fromBelow (chassisOver (now (s .entry)) (now (patch .entry))) packet q ⌝ }
 {
     let Packet::Plain(t) = packet else {
         return Step::Stop(End::Unsupported(q));
     };
-    match lowest_at(s, n, q, t, Regard::Held) {
-        Holders::Nobody => upward(s, t, q),
-        Holders::Only(p) => sole_holder(s, packet, p),
+    match lowest_at(s, patch, n, q, t, Regard::Held) {
+        Holders::Nobody => upward(s, patch, t, q),
+        Holders::Only(p) => sole_holder(s, patch, packet, p),
         Holders::Both(p, r) => Step::Stop(End::Doubled(p, r)),
     }
 }
 
 // Below a port that made the request Type 0: own IDs alone are looked at.
-fn under_type0(s: &[u8], n: u8, t: Target, q: PortNo) -> Step
+fn under_type0<'a>(s: &'a [u8], patch: &'a [u8], n: u8, t: Target, q: PortNo) -> Step
     requires { ⌜ n ≡ countOf (now s) ⌝ }
-    ensures { λ r. ⌜ r ≡ underType0 (chassisOf (now (s .entry))) t q ⌝ }
+    ensures { λ r. ⌜ r ≡ underType0 (chassisOver (now (s .entry)) (now (patch .entry))) t q ⌝ }
 {
-    match lowest_at(s, n, q, t, Regard::Own) {
+    match lowest_at(s, patch, n, q, t, Regard::Own) {
         Holders::Nobody => device_or(s, n, q, function_number(s, q, t)),
         Holders::Only(p) => Step::Stop(End::Function(p)),
         Holders::Both(p, r) => Step::Stop(End::Doubled(p, r)),
@@ -158,27 +160,33 @@ fn under_type0(s: &[u8], n: u8, t: Target, q: PortNo) -> Step
 }
 
 // Below a port that passed the request on as Type 1: claims alone are looked at.
-fn under_type1(s: &[u8], n: u8, t: Target, q: PortNo) -> Step
+fn under_type1<'a>(s: &'a [u8], patch: &'a [u8], n: u8, t: Target, q: PortNo) -> Step
     requires { ⌜ n ≡ countOf (now s) ⌝ }
-    ensures { λ r. ⌜ r ≡ underType1 (chassisOf (now (s .entry))) t q ⌝ }
+    ensures { λ r. ⌜ r ≡ underType1 (chassisOver (now (s .entry)) (now (patch .entry))) t q ⌝ }
 {
-    match lowest_at(s, n, q, t, Regard::Claimed) {
+    match lowest_at(s, patch, n, q, t, Regard::Claimed) {
         Holders::Nobody => Step::Stop(End::Unsupported(q)),
-        Holders::Only(p) => decide(p, claims::conversion(s, p, t)),
+        Holders::Only(p) => decide(p, claims::conversion(s, patch, p, t)),
         Holders::Both(p, r) => Step::Stop(End::Doubled(p, r)),
     }
 }
 
 // What a packet does next.
-pub fn step(s: &[u8], n: u8, packet: Packet, whereabouts: Whereabouts) -> Step
+pub fn step<'a>(
+    s: &'a [u8],
+    patch: &'a [u8],
+    n: u8,
+    packet: Packet,
+    whereabouts: Whereabouts,
+) -> Step
     requires { ⌜ n ≡ countOf (now s) ⌝ }
-    ensures { λ r. ⌜ r ≡ next (chassisOf (now (s .entry))) packet whereabouts ⌝ }
+    ensures { λ r. ⌜ r ≡ next (chassisOver (now (s .entry)) (now (patch .entry))) packet whereabouts ⌝ }
 {
     match whereabouts {
-        Whereabouts::Root => at_root(s, n, packet),
-        Whereabouts::Into(q) => from_above(s, n, packet, q),
-        Whereabouts::From(q) => from_below(s, n, packet, q),
-        Whereabouts::Type0(q) => under_type0(s, n, target_of(packet), q),
-        Whereabouts::Type1(q) => under_type1(s, n, target_of(packet), q),
+        Whereabouts::Root => at_root(s, patch, n, packet),
+        Whereabouts::Into(q) => from_above(s, patch, n, packet, q),
+        Whereabouts::From(q) => from_below(s, patch, n, packet, q),
+        Whereabouts::Type0(q) => under_type0(s, patch, n, target_of(packet), q),
+        Whereabouts::Type1(q) => under_type1(s, patch, n, target_of(packet), q),
     }
 }

@@ -19,7 +19,7 @@ ghost use Rattle.least.specs.Least.{firstIn};
 ghost use Rattle.chassis.specs.Chassis.{targetIn, spaceSize};
 ghost use Rattle.chassis.specs.Check.{ownIdLost, faulty, leastTarget, verdictAt, atLeast, lostAt, rowOf, orNext, verdictOf};
 ghost use Rattle.trees.specs.Trees.{countOf};
-ghost use Rattle.claims.specs.Claims.{chassisOf};
+ghost use Rattle.claims.specs.Over.{chassisOver};
 
 // The target of a space by its number.
 fn target_in(space: Space, t: u64) -> Target
@@ -33,62 +33,62 @@ fn target_in(space: Space, t: u64) -> Target
 }
 
 // What a faulty target shows: the first pair at it, or the lowest port.
-fn verdict_at(s: &[u8], n: u8, fault: Fault, t: Target) -> Verdict
+fn verdict_at<'a>(s: &'a [u8], patch: &'a [u8], n: u8, fault: Fault, t: Target) -> Verdict
     requires { ⌜ n ≡ countOf (now s) ⌝ }
-    requires { ⌜ faulty fault (chassisOf (now s)) t ≡ true ⌝ }
-    ensures { λ r. ⌜ r ≡ verdictAt (chassisOf (now (s .entry))) fault t ⌝ }
+    requires { ⌜ faulty fault (chassisOver (now s) (now patch)) t ≡ true ⌝ }
+    ensures { λ r. ⌜ r ≡ verdictAt (chassisOver (now (s .entry)) (now (patch .entry))) fault t ⌝ }
 {
     match fault {
         Fault::Shared => {
-            let pair = first_pair(s, n, t);
+            let pair = first_pair(s, patch, n, t);
             let first = pair.first;
             let second = pair.second;
             Verdict::Shared(t, first, second)
         }
-        Fault::Stray => Verdict::Stray(t, lowest_stray(s, n, t)),
+        Fault::Stray => Verdict::Stray(t, lowest_stray(s, patch, n, t)),
     }
 }
 
 // Numbers 11 to 14: a fault at the least target of a space.
-fn fault_in(s: &[u8], n: u8, fault: Fault, space: Space) -> Verdict
+fn fault_in<'a>(s: &'a [u8], patch: &'a [u8], n: u8, fault: Fault, space: Space) -> Verdict
     requires { ⌜ n ≡ countOf (now s) ⌝ }
-    ensures { λ r. ⌜ r ≡ atLeast (chassisOf (now (s .entry))) fault space (leastTarget (faulty fault (chassisOf (now (s .entry)))) space) ⌝ }
+    ensures { λ r. ⌜ r ≡ atLeast (chassisOver (now (s .entry)) (now (patch .entry))) fault space (leastTarget (faulty fault (chassisOver (now (s .entry)) (now (patch .entry)))) space) ⌝ }
 {
-    match least_fault(s, n, fault, space) {
-        Found::At(t) => verdict_at(s, n, fault, target_in(space, t)),
+    match least_fault(s, patch, n, fault, space) {
+        Found::At(t) => verdict_at(s, patch, n, fault, target_in(space, t)),
         Found::Nothing => Verdict::Clear,
     }
 }
 
 // Number 15.
-fn own_id_lost(s: &[u8], n: u8) -> Verdict
+fn own_id_lost<'a>(s: &'a [u8], patch: &'a [u8], n: u8) -> Verdict
     requires { ⌜ n ≡ countOf (now s) ⌝ }
-    ensures { λ r. ⌜ r ≡ lostAt (firstIn (ownIdLost (chassisOf (now (s .entry)))) 0 (countOf (now (s .entry)))) ⌝ }
+    ensures { λ r. ⌜ r ≡ lostAt (firstIn (ownIdLost (chassisOver (now (s .entry)) (now (patch .entry)))) 0 (countOf (now (s .entry)))) ⌝ }
 {
-    match lowest(s, n, PortFault::Lost) {
+    match lowest(s, patch, n, PortFault::Lost) {
         Found::At(p) => Verdict::Lost(PortNo(p as u8)),
         Found::Nothing => Verdict::Clear,
     }
 }
 
 // What a row of the table finds in a picture of n ports, whatever the other rows find.
-pub fn of_row(s: &[u8], n: u8, row: Row) -> Verdict
+pub fn of_row<'a>(s: &'a [u8], patch: &'a [u8], n: u8, row: Row) -> Verdict
     requires { ⌜ n ≡ countOf (now s) ⌝ }
-    ensures { λ r. ⌜ r ≡ rowOf (chassisOf (now (s .entry))) row ⌝ }
+    ensures { λ r. ⌜ r ≡ rowOf (chassisOver (now (s .entry)) (now (patch .entry))) row ⌝ }
 {
     match row {
-        Row::At(fault, space) => fault_in(s, n, fault, space),
-        Row::Lost => own_id_lost(s, n),
+        Row::At(fault, space) => fault_in(s, patch, n, fault, space),
+        Row::Lost => own_id_lost(s, patch, n),
     }
 }
 
 // The verdict of the rows before, or what the next row finds, which is looked for only where they are clear.
-fn or_row(s: &[u8], n: u8, before: Verdict, next: Row) -> Verdict
+fn or_row<'a>(s: &'a [u8], patch: &'a [u8], n: u8, before: Verdict, next: Row) -> Verdict
     requires { ⌜ n ≡ countOf (now s) ⌝ }
-    ensures { λ r. ⌜ r ≡ orNext before (rowOf (chassisOf (now (s .entry))) next) ⌝ }
+    ensures { λ r. ⌜ r ≡ orNext before (rowOf (chassisOver (now (s .entry)) (now (patch .entry))) next) ⌝ }
 {
     match before {
-        Verdict::Clear => of_row(s, n, next),
+        Verdict::Clear => of_row(s, patch, n, next),
         Verdict::Shared(t, p, q) => Verdict::Shared(t, p, q),
         Verdict::Stray(t, p) => Verdict::Stray(t, p),
         Verdict::Lost(p) => Verdict::Lost(p),
@@ -96,13 +96,25 @@ fn or_row(s: &[u8], n: u8, before: Verdict, next: Row) -> Verdict
 }
 
 // The first row that is not clear, of a picture of n ports.
-pub fn verdict(s: &[u8], n: u8) -> Verdict
+pub fn verdict<'a>(s: &'a [u8], patch: &'a [u8], n: u8) -> Verdict
     requires { ⌜ n ≡ countOf (now s) ⌝ }
-    ensures { λ r. ⌜ r ≡ verdictOf (chassisOf (now (s .entry))) ⌝ }
+    ensures { λ r. ⌜ r ≡ verdictOf (chassisOver (now (s .entry)) (now (patch .entry))) ⌝ }
 {
-    let shared_id = of_row(s, n, Row::At(Fault::Shared, Space::Ids));
-    let shared = or_row(s, n, shared_id, Row::At(Fault::Shared, Space::Addresses));
-    let stray_id = or_row(s, n, shared, Row::At(Fault::Stray, Space::Ids));
-    let stray = or_row(s, n, stray_id, Row::At(Fault::Stray, Space::Addresses));
-    or_row(s, n, stray, Row::Lost)
+    let shared_id = of_row(s, patch, n, Row::At(Fault::Shared, Space::Ids));
+    let shared = or_row(
+        s,
+        patch,
+        n,
+        shared_id,
+        Row::At(Fault::Shared, Space::Addresses),
+    );
+    let stray_id = or_row(s, patch, n, shared, Row::At(Fault::Stray, Space::Ids));
+    let stray = or_row(
+        s,
+        patch,
+        n,
+        stray_id,
+        Row::At(Fault::Stray, Space::Addresses),
+    );
+    or_row(s, patch, n, stray, Row::Lost)
 }

@@ -5,7 +5,7 @@ use Rattle.claims.proofs.claims_id.Tie as tie
 
 returns : tie.Need-returns
 unfolding claimsId
-returns c = rw (c .vector-claims .ensures, c .before .before .vector .ensures, c .before .before .before .bus-claims .ensures, c .before .before .before .before .before .before .port-at .ensures)
+returns c = rw (c .vector-claims .ensures, c .before .before .vector .ensures .0, c .before .before .before .bus-claims .ensures, c .before .before .before .before .before .before .port-at .ensures)
 
 pub claims-id-spec : {M : Type 1} → statement M
 claims-id-spec =

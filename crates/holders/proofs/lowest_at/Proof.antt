@@ -1,7 +1,7 @@
 use Rattle.holders.proofs.Laws.{all-tried}
 use Rattle.chassis.specs.Chassis.{passesAt, lowestTwo}
 use Rattle.holders.specs.Holders.{regards}
-use Rattle.claims.specs.Claims.{chassisOf}
+use Rattle.claims.specs.Over.{chassisOver}
 use borrow.Author.Needs.{needs}
 use native.Mathlib.Omega.{arith}
 use native.Mathlib.Numerals.{add-one}
@@ -11,10 +11,10 @@ use Rattle.holders.proofs.lowest_at.Statement.{statement}
 use Rattle.holders.proofs.lowest_at.Tie as tie
 
 abbrev Inv-loop : tie.InvT-loop
-Inv-loop s n place t regard found₀ p₀ found p = (p ≤ n) × (found ≡ lowestTwo (passesAt (chassisOf s) (place .0) (regards regard (chassisOf s) t)) p)
+Inv-loop s patch n place t regard found₀ p₀ found p = (p ≤ n) × (found ≡ lowestTwo (passesAt (chassisOver s patch) (place .0) (regards regard (chassisOver s patch) t)) p)
 
 abbrev μ-loop : tie.MeasureT-loop
-μ-loop s n place t regard found₀ p₀ found p = n - p
+μ-loop s patch n place t regard found₀ p₀ found p = n - p
 
 loop-holds : tie.Need-loop-holds Inv-loop μ-loop
 unfolding lowestTwo
@@ -25,7 +25,7 @@ unfolding lowestTwo
 loop-again c = (omega arith, rw (add-one, ← c .before .passes .ensures, ← c .before .before .before .loop .inv .1) (c .with-port .ensures))
 
 returns : tie.Need-returns Inv-loop μ-loop
-returns c = all-tried _ (c .before .loop .inv .1) (c .before .loop .inv .0) (c .loop-test .left) (c .before .before .before .pre)
+returns c = all-tried _ (c .before .loop .inv .1) (c .before .loop .inv .0) (c .loop-test .left) (c .before .before .before .before .pre)
 
 pub lowest-at-spec : {M : Type 1} → statement M
 lowest-at-spec =

@@ -4,7 +4,7 @@ use Rattle.verdicts.proofs.verdict_at.Statement.{statement}
 use Rattle.verdicts.proofs.verdict_at.Tie as tie
 
 first-pair-requires : tie.Need-first-pair-requires
-first-pair-requires c κs = (c .before .before .before .pre .0, rw (c .enum-told .given .1) at (c .before .before .before .pre .1))
+first-pair-requires c κs = (c .before .before .before .before .pre .0, rw (c .enum-told .given .1) at (c .before .before .before .before .pre .1))
 
 returns : tie.Need-returns
 unfolding pairAt

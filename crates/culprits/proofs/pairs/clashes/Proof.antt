@@ -7,7 +7,7 @@ use Rattle.culprits.proofs.pairs.clashes.Tie as tie
 
 returns : tie.Need-returns
 unfolding clash
-returns c = rw (eq-eqb _ _ (c .before .before .if1 .taken), c .before .is-own .ensures, c .claims .ensures)
+returns c = rw (eq-eqb _ _ (c .before .before .if1 .taken), c .before .is-own .ensures (c .before .before .before .before .before .before .before .args .patch .now), c .claims .ensures)
 
 returns-2 : tie.Need-returns-2
 unfolding clash

@@ -1,7 +1,7 @@
 use Rattle.culprits.proofs.FirstPair.{port-left, port-passed, pair-here}
 use Rattle.least.proofs.Laws.{NoneIn, none-empty, none-more}
 use Rattle.chassis.specs.Check.{clash, clashesWith}
-use Rattle.claims.specs.Claims.{chassisOf}
+use Rattle.claims.specs.Over.{chassisOver}
 use native.Mathlib.Omega.{arith}
 use Prim.Native.Nat.{_≤_, _-_}
 use mathlib.Core.Path.{sym, _∙_}
@@ -9,16 +9,16 @@ use Rattle.culprits.proofs.pairs.first_pair.Statement.{statement}
 use Rattle.culprits.proofs.pairs.first_pair.Tie as tie
 
 abbrev Inv-loop : tie.InvT-loop
-Inv-loop s n t p q₀ q = (q ≤ n) × NoneIn (clash (chassisOf s) t p) 0 q
+Inv-loop s patch n t p q₀ q = (q ≤ n) × NoneIn (clash (chassisOver s patch) t p) 0 q
 
 abbrev μ-loop : tie.MeasureT-loop
-μ-loop s n t p q₀ q = n - q
+μ-loop s patch n t p q₀ q = n - q
 
 abbrev Inv-ports : tie.InvT-ports
-Inv-ports s n t p₀ p = NoneIn (clashesWith (chassisOf s) t) 0 p
+Inv-ports s patch n t p₀ p = NoneIn (clashesWith (chassisOver s patch) t) 0 p
 
 abbrev μ-ports : tie.MeasureT-ports
-μ-ports s n t p₀ p = n - p
+μ-ports s patch n t p₀ p = n - p
 
 ports-holds : tie.Need-ports-holds Inv-loop μ-loop Inv-ports μ-ports
 ports-holds c = none-empty (omega arith)
@@ -30,16 +30,16 @@ loop-again : tie.Need-loop-again Inv-loop μ-loop Inv-ports μ-ports
 loop-again c = (omega arith, none-more (c .before .before .before .loop .inv .1) (sym (c .before .clashes .ensures) ∙ c .if1 .left))
 
 add-p : tie.Need-add-p Inv-loop μ-loop Inv-ports μ-ports
-add-p c = omega (arith, port-left (chassisOf (c .before .before .before .before .args .s .now)) (c .before .before .before .before .args .t) (c .before .before .ports .inv) (c .before .before .before .before .pre .1), c .before .before .before .before .pre .0)
+add-p c = omega (arith, port-left (chassisOver (c .before .before .before .before .before .args .s .now) (c .before .before .before .before .before .args .patch .now)) (c .before .before .before .before .before .args .t) (c .before .before .ports .inv) (c .before .before .before .before .before .pre .1), c .before .before .before .before .before .pre .0)
 
 ports-less : tie.Need-ports-less Inv-loop μ-loop Inv-ports μ-ports
-ports-less c = omega (arith, port-left (chassisOf (c .before .before .before .before .args .s .now)) (c .before .before .before .before .args .t) (c .before .before .ports .inv) (c .before .before .before .before .pre .1), c .before .before .before .before .pre .0)
+ports-less c = omega (arith, port-left (chassisOver (c .before .before .before .before .before .args .s .now) (c .before .before .before .before .before .args .patch .now)) (c .before .before .before .before .before .args .t) (c .before .before .ports .inv) (c .before .before .before .before .before .pre .1), c .before .before .before .before .before .pre .0)
 
 ports-again : tie.Need-ports-again Inv-loop μ-loop Inv-ports μ-ports
-ports-again c = none-more (c .before .before .ports .inv) (port-passed (chassisOf (c .before .before .before .before .args .s .now)) (c .before .before .before .before .args .t) (c .before .before .ports .inv) (c .before .loop .inv .1) (c .loop-test .left) (c .before .before .before .before .pre .0))
+ports-again c = none-more (c .before .before .ports .inv) (port-passed (chassisOver (c .before .before .before .before .before .args .s .now) (c .before .before .before .before .before .args .patch .now)) (c .before .before .before .before .before .args .t) (c .before .before .ports .inv) (c .before .loop .inv .1) (c .loop-test .left) (c .before .before .before .before .before .pre .0))
 
 returns : tie.Need-returns Inv-loop μ-loop Inv-ports μ-ports
-returns c = pair-here (chassisOf (c .before .before .before .before .before .before .args .s .now)) (c .before .before .before .before .before .before .args .t) (c .before .before .before .before .ports .inv) (c .before .before .before .loop .inv .1) (rw (c .before .before .before .before .before .before .pre .0) at (c .before .before .loop-test .taken)) (sym (c .before .clashes .ensures) ∙ c .if1 .taken) (port-left (chassisOf (c .before .before .before .before .before .before .args .s .now)) (c .before .before .before .before .before .before .args .t) (c .before .before .before .before .ports .inv) (c .before .before .before .before .before .before .pre .1))
+returns c = pair-here (chassisOver (c .before .before .before .before .before .before .before .args .s .now) (c .before .before .before .before .before .before .before .args .patch .now)) (c .before .before .before .before .before .before .before .args .t) (c .before .before .before .before .ports .inv) (c .before .before .before .loop .inv .1) (rw (c .before .before .before .before .before .before .before .pre .0) at (c .before .before .loop-test .taken)) (sym (c .before .clashes .ensures) ∙ c .if1 .taken) (port-left (chassisOver (c .before .before .before .before .before .before .before .args .s .now) (c .before .before .before .before .before .before .before .args .patch .now)) (c .before .before .before .before .before .before .before .args .t) (c .before .before .before .before .ports .inv) (c .before .before .before .before .before .before .before .pre .1))
 
 pub first-pair-spec : {M : Type 1} → statement M
 first-pair-spec =

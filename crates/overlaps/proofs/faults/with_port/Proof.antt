@@ -1,4 +1,4 @@
-use Rattle.claims.specs.Claims.{chassisOf}
+use Rattle.claims.specs.Over.{chassisOver}
 use Rattle.chassis.specs.Check.{leastTarget}
 use Rattle.chassis.specs.declared.Fault.{Fault}
 use Rattle.overlaps.specs.Overlaps.{faultyTo}
@@ -9,10 +9,10 @@ use Rattle.overlaps.proofs.faults.with_port.Tie as tie
 
 with-pairs-requires : tie.Need-with-pairs-requires
 with-pairs-requires c κs =
-    (c .before .before .before .pre .0, (c .before .before .before .pre .1 .0, rw (c .enum-told .given .1) at (c .before .before .before .pre .1 .1)))
+    (c .before .before .before .before .pre .0, (c .before .before .before .before .pre .1 .0, rw (c .enum-told .given .1) at (c .before .before .before .before .pre .1 .1)))
 
 with-child-requires : tie.Need-with-child-requires
-with-child-requires c κs = rw (c .enum-told2 .given .1) at (c .before .before .before .pre .1 .1)
+with-child-requires c κs = rw (c .enum-told2 .given .1) at (c .before .before .before .before .pre .1 .1)
 
 returns : tie.Need-returns
 returns c = rw (c .before .enum-told .given .1) (c .with-pairs .ensures)

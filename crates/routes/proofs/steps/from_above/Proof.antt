@@ -5,7 +5,7 @@ use Rattle.routes.proofs.steps.from_above.Tie as tie
 
 returns : tie.Need-returns
 unfolding byHolders
-returns c = rw (← c .before .before .before .before .target-of .ensures, ← c .before .before .before .lowest-at .ensures, c .before .enum-told .given .1) (c .device-or .ensures)
+returns c = rw (← c .before .before .before .before .target-of .ensures, ← c .before .before .before .lowest-at .ensures, c .before .enum-told .given .1) (c .device-or .ensures _)
 
 returns-2 : tie.Need-returns-2
 unfolding byHolders

@@ -6,15 +6,15 @@ use Rattle.routes.proofs.steps.function_number.Tie as tie
 
 returns : tie.Need-returns
 unfolding functionNumber
-returns c = rw (c .enum-told .given .1)
+returns c = λ patch. rw (c .enum-told .given .1)
 
 returns-2 : tie.Need-returns-2
 unfolding functionNumber
-returns-2 c = rw (c .before .before .before .before .t .given .1, ← c .before .before .with-ari-at .ensures, c .before .if1 .taken)
+returns-2 c = λ patch. rw (c .before .before .before .before .t .given .1, ← c .before .before .with-ari-at .ensures, c .before .if1 .taken)
 
 returns-3 : tie.Need-returns-3
 unfolding functionNumber
-returns-3 c = rw (c .before .before .before .before .t .given .1, ← c .before .before .with-ari-at .ensures, c .before .if1 .left) (c .function .ensures)
+returns-3 c = λ patch. rw (c .before .before .before .before .t .given .1, ← c .before .before .with-ari-at .ensures, c .before .if1 .left) (c .function .ensures)
 
 pub function-number-spec : {M : Type 1} → statement M
 function-number-spec =

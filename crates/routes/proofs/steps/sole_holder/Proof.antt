@@ -4,11 +4,11 @@ use Rattle.routes.proofs.steps.sole_holder.Tie as tie
 
 returns : tie.Need-returns
 unfolding soleHolder
-returns c = rw (← c .before .before .target-of .ensures, ← c .before .is-own .ensures, c .if1 .taken)
+returns c = rw (← c .before .before .target-of .ensures, ← c .before .is-own .ensures (c .before .before .before .before .before .args .patch .now), c .if1 .taken)
 
 returns-2 : tie.Need-returns-2
 unfolding soleHolder
-returns-2 c = rw (← c .before .before .before .target-of .ensures, ← c .before .before .is-own .ensures, c .before .if1 .left) (c .downward .ensures)
+returns-2 c = rw (← c .before .before .before .target-of .ensures, ← c .before .before .is-own .ensures (c .before .before .before .before .before .before .args .patch .now), c .before .if1 .left) (c .downward .ensures)
 
 pub sole-holder-spec : {M : Type 1} → statement M
 sole-holder-spec =

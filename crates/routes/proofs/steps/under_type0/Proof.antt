@@ -5,7 +5,7 @@ use Rattle.routes.proofs.steps.under_type0.Tie as tie
 
 returns : tie.Need-returns
 unfolding underType0 byHolders
-returns c = rw (← c .before .before .before .before .lowest-at .ensures, c .before .before .enum-told .given .1, ← c .before .function-number .ensures) (c .device-or .ensures)
+returns c = rw (← c .before .before .before .before .lowest-at .ensures, c .before .before .enum-told .given .1, ← c .before .function-number .ensures (c .before .before .before .before .before .before .before .args .patch .now)) (c .device-or .ensures _)
 
 returns-2 : tie.Need-returns-2
 unfolding underType0 byHolders
