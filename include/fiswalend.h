@@ -2,12 +2,13 @@
  *
  * A picture is a chassis of 1 to 64 PCIe ports as bytes: a header, a record for each port, their vectors; docs/PICTURE.md of the
  * source has its format and the table of numbers. fpb_check says whether it is sound, fpb_walk says where one packet goes in it.
- * What they return and write is proved, for every picture, every buffer and every number.
+ * fpb_trial_check and fpb_trial_walk say the same of a picture with the vectors of a patch put in, for some of its ports.
+ * What they return and write is proved, for every picture, every patch, every buffer and every number.
  *
  * What the caller must see to, since no proof reaches this side of the call:
- *   - a pointer is valid for the length that comes with it: to read for a picture, to read and write for an answer.
+ *   - a pointer is valid for the length that comes with it: to read for a picture or a patch, to read and write for an answer.
  *     At length 0 any pointer will do, NULL too;
- *   - picture and answer do not overlap, and nothing changes either during a call.
+ *   - an answer overlaps neither picture nor patch, and nothing changes any of them during a call.
  *
  * The calls keep no state, so any number of threads may call at once. They do not allocate, block, print or stop the program,
  * and use under 4 KiB of stack. They fail in no way but by the numbers below.
@@ -26,9 +27,9 @@ extern "C" {
 
 /* The version of this header and of the archive that it comes with, as numbers and as text. */
 #define FPB_VERSION_MAJOR 1
-#define FPB_VERSION_MINOR 1
-#define FPB_VERSION_PATCH 1
-#define FPB_VERSION "1.1.1"
+#define FPB_VERSION_MINOR 2
+#define FPB_VERSION_PATCH 0
+#define FPB_VERSION "1.2.0"
 
 /* The bytes of an answer, and the places in its path. */
 #define FPB_ANSWER_LENGTH 40
@@ -38,7 +39,8 @@ extern "C" {
 #define FPB_NO_PORT 255
 #define FPB_HOST 255
 
-/* The number that a call returns. The lowest that applies is given, and of several ports the lowest. */
+/* The number that a call returns. 17 is looked for first, then 1 to 10, then 30 to 32, then 16 or 11 to 15; the first that
+ * applies is given, and of several ports the lowest. */
 enum fpb_number {
     FPB_CLEAR = 0,          /* the check found nothing; the walk came to an end */
     FPB_LENGTH = 1,         /* the picture has under 72 or over 65,536 bytes */
@@ -57,7 +59,10 @@ enum fpb_number {
     FPB_STRAY_ADDRESS = 14, /* check: an address held by a port and not claimed by its parent; names the port, and the address */
     FPB_OWN_ID_LOST = 15,   /* check: a port's own ID is not both claimed by its parent and Type 0 there; names the port */
     FPB_QUESTION = 16,      /* walk: packet kind over 2, an ID over FFFFh, or a start that is no device port and not the host */
-    FPB_BUFFER = 17         /* the answer buffer has under 40 bytes; nothing was looked at, nothing written */
+    FPB_BUFFER = 17,        /* the answer buffer has under 40 bytes; nothing was looked at, nothing written */
+    FPB_PATCH_HEADER = 30,  /* trial: a patch under 8 bytes, or without room for its ports, or whose total is not the length given */
+    FPB_PATCH_PORTS = 31,   /* trial: a port of the patch stands twice, out of order, or is not in the picture */
+    FPB_PATCH_VECTORS = 32  /* trial: an offset is not where the vectors before end, or the last do not end at the total */
 };
 
 /* What is sent, and so what the target of a walk is. */
@@ -99,6 +104,26 @@ uint32_t fpb_check(const uint8_t *picture, size_t picture_len, uint8_t *answer, 
 uint32_t fpb_walk(const uint8_t *picture, size_t picture_len, uint8_t *answer, size_t answer_len, uint32_t kind, uint32_t start,
                   uint64_t target);
 
+/* The same two calls over a picture and a patch, which are only read: they answer as over the picture with the patch's vectors
+ * put in. A patch has a whole new set of vectors for some ports, of the sizes that the picture's registers say; little-endian:
+ *
+ *     at 0             4 bytes   n, how many ports
+ *     at 4             4 bytes   the patch's total length
+ *     at 8 + 8i        4 bytes   for each i below n: the number of a port, above that of the one before it
+ *     at 12 + 8i       4 bytes   where the vectors of that port begin, counted from the patch's first byte
+ *     from 8 + 8n on             the vectors, in this order and without gaps to the patch's end; of one port as in a picture:
+ *                                RID, MEM Low, MEM High, each that is supported, enabled or not
+ *
+ * A port without vectors may stand in it, with no bytes. The 8 bytes of no port change nothing.
+ *
+ * Refusals are looked for in this order: 17, then 1 to 10 of the picture, then 30, 31 and 32, each over the whole patch before
+ * the next and naming no port, then 16 for the walk or 11 to 15 for the check. fpb_trial_check returns 0 to 15, 17 or 30 to 32;
+ * fpb_trial_walk 0 to 10, 16, 17 or 30 to 32. The buffer as for fpb_check. */
+uint32_t fpb_trial_check(const uint8_t *picture, size_t picture_len, const uint8_t *patch, size_t patch_len, uint8_t *answer,
+                         size_t answer_len);
+uint32_t fpb_trial_walk(const uint8_t *picture, size_t picture_len, const uint8_t *patch, size_t patch_len, uint8_t *answer,
+                        size_t answer_len, uint32_t kind, uint32_t start, uint64_t target);
+
 /* The port at place i of an answer's path, i under the number of crossings, in crossing order. */
 static inline uint8_t fpb_crossed(const uint8_t *answer, size_t i)
 {
@@ -138,8 +163,12 @@ static inline const char *fpb_number_text(uint32_t number)
         "a port's own ID is not both claimed and made Type 0 by its parent",
         "a packet kind, an ID, a start or a port was asked for that there is not",
         "the answer buffer is shorter than 40 bytes",
+        NULL, NULL, NULL, NULL, NULL, NULL, NULL, NULL, NULL, NULL, NULL, NULL, /* 18 to 29 */
+        "the patch is too short for its header or its list of ports, or the total length in its header is not its length",
+        "a port stands twice in the patch, out of order, or is not in the picture",
+        "a port's new vectors do not begin where they must, or the last ones do not end where the patch ends",
     };
-    return number < sizeof texts / sizeof texts[0] ? texts[number] : "not a number of this judge";
+    return number < sizeof texts / sizeof texts[0] && texts[number] != NULL ? texts[number] : "not a number of this judge";
 }
 
 #ifdef __cplusplus

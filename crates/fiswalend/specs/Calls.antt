@@ -8,6 +8,7 @@ use lib.Dec.{ltb}
 use lib.ListN.{length, drop}
 use Rattle.judge.specs.declared.WalkAnswer.{WalkAnswer}
 use Rattle.judge.specs.Ends.{outcomeNumber}
+use Rattle.judge.specs.Trying.{TrialGives}
 use Rattle.judge.specs.Walking.{WalkGives}
 use Rattle.fiswalend.specs.Walked.{walkBytes}
 
@@ -22,11 +23,15 @@ returned before number = cond (tooShort before) 17 number
 unfoldable pub written : List ℕ → List ℕ → List ℕ
 written before forty = cond (tooShort before) before (forty ++ drop 40 before)
 
--- the walk call's number, and the buffer after it, for the buffer before it
-abbrev pub WalkLeaves : Bool → List ℕ → ℕ → ℕ → ℕ → List ℕ → ℕ → List ℕ → Type 0
-WalkLeaves true s kind start target before number after = (number ≡ 17) × (after ≡ before)
-WalkLeaves false s kind start target before number after =
-    (a : WalkAnswer) × WalkGives s kind start target a × (number ≡ outcomeNumber (a .outcome)) × (after ≡ walkBytes a ++ drop 40 before)
+-- a walk's number, and the buffer after it, for the buffer before it, where `Gives` says which answer is given
+abbrev pub WalkLeaves : Bool → (WalkAnswer → Type 0) → List ℕ → ℕ → List ℕ → Type 0
+WalkLeaves true Gives before number after = (number ≡ 17) × (after ≡ before)
+WalkLeaves false Gives before number after =
+    (a : WalkAnswer) × Gives a × (number ≡ outcomeNumber (a .outcome)) × (after ≡ walkBytes a ++ drop 40 before)
 
 abbrev pub WalkCall : List ℕ → ℕ → ℕ → ℕ → List ℕ → ℕ → List ℕ → Type 0
-WalkCall s kind start target before number after = WalkLeaves (tooShort before) s kind start target before number after
+WalkCall s kind start target before number after = WalkLeaves (tooShort before) (WalkGives s kind start target) before number after
+
+abbrev pub TrialWalkCall : List ℕ → List ℕ → ℕ → ℕ → ℕ → List ℕ → ℕ → List ℕ → Type 0
+TrialWalkCall s patch kind start target before number after =
+    WalkLeaves (tooShort before) (TrialGives s patch kind start target) before number after

@@ -3,8 +3,12 @@
 mod buffers;
 mod check_call;
 mod found;
+mod trial_check_call;
+mod trial_walk_call;
 mod walk_call;
 mod walked;
 
 pub use check_call::fpb_check;
+pub use trial_check_call::fpb_trial_check;
+pub use trial_walk_call::fpb_trial_walk;
 pub use walk_call::fpb_walk;

@@ -1,7 +1,7 @@
 -- What a walk that is not refused has, and that the call's answer is the only one it may give. Assumes nothing.
 use Prim.Native.Nat.{ℕ, _<_, _≤_, _^_}
 use mathlib.Core.Bool.{Bool, true, false, not, _||_}
-use mathlib.Core.List.{List}
+use mathlib.Core.List.{List, []}
 use mathlib.Core.Path.{_≡_, refl, sym, ap, subst, subst₂, _∙_}
 use native.Mathlib.Omega.{arith}
 use borrow.Author.Tests.{eqb-true, ne-eqb, leb-false, ltb-true, not-false}
@@ -24,10 +24,10 @@ use Rattle.picture.specs.declared.Refusal.{Refusal}
 use Rattle.picture.specs.declared.Reading.{Reading}
 use Rattle.picture.specs.declared.Reading.the-variants.{Read, Refused as NotRead}
 use Rattle.picture.specs.Reading.{reading}
-use Rattle.picture.proofs.Laws.{count-of}
-use Rattle.picture.proofs.WhatReads.{reads, reads-sane}
-use Rattle.trees.specs.Trees.{countOf, treeOf}
+use Rattle.trees.specs.Trees.{treeOf}
 use Rattle.claims.specs.Claims.{chassisOf}
+use Rattle.claims.specs.Over.{chassisOver}
+use Rattle.claims.proofs.Over.{unpatched}
 use Rattle.routes.specs.declared.Walked.{Walked}
 use Rattle.routes.specs.Routes.{Arrives}
 use Rattle.judge.specs.declared.WalkAnswer.{WalkAnswer}
@@ -88,7 +88,7 @@ arrives-one a b x y =
 pub walk-only : (s : List ℕ) (kind start target : ℕ) (a b : WalkAnswer) → WalkGives s kind start target a → WalkGives s kind start target b → a ≡ b
 walk-only s kind start target a b = read (reading s)
   where
-    asked : (wrong : Bool) → AskedGives wrong s kind start target a → AskedGives wrong s kind start target b → a ≡ b
+    asked : (wrong : Bool) → AskedGives wrong (chassisOf s) kind start target a → AskedGives wrong (chassisOf s) kind start target b → a ≡ b
     asked true x y = x ∙ sym y
     asked false x y = x .2 ∙ ap endedWalk (arrives-one (x .0) (y .0) (x .1) (y .1)) ∙ sym (y .2)
 
@@ -96,43 +96,42 @@ walk-only s kind start target a b = read (reading s)
     read (NotRead r) x y = x ∙ sym y
     read (Read h) x y = asked (askedWrongly (chassisOf s .tree) kind start target) x y
 
--- the three ways in which the call ends
+-- the two ways in which a call ends that has read
+module _ (c : Chassis) (kind start target : ℕ) (answer : WalkAnswer) where
+  abbrev Gives : Bool → Type 0
+  Gives wrong = AskedGives wrong c kind start target answer
+
+  pub gives-16 : askedWrongly (c .tree) kind start target ≡ true → answer ≡ refusedWalk number16 → Gives (askedWrongly (c .tree) kind start target)
+  gives-16 asked e = subst Gives (sym asked) e
+
+  pub gives-end : {packet : Packet} {from : Whereabouts} (w : Walked) → askedWrongly (c .tree) kind start target ≡ false
+      → packet ≡ packetOf kind target → from ≡ comeTo start → Arrives c packet from w → answer ≡ endedWalk w
+      → Gives (askedWrongly (c .tree) kind start target)
+  gives-end w asked what where-from arrives e =
+      subst Gives (sym asked) (w, subst₂ (λ (p : Packet) (x : Whereabouts). Arrives c p x w) what where-from arrives, e)
+
+-- the two ways in which the walk call ends
 module _ (s : List ℕ) (kind start target : ℕ) (answer : WalkAnswer) where
   pub gives-unread : (r : Refusal) → reading s ≡ NotRead r → answer ≡ refusedWalk r → WalkGives s kind start target answer
   gives-unread r unread e = subst (λ (got : Reading). ReadGives got s kind start target answer) (sym unread) e
 
-  module _ (h : Header) (read : reading s ≡ Read h) where
-    asked-gives : (wrong : Bool) → askedWrongly (treeOf s) kind start target ≡ wrong → AskedGives wrong s kind start target answer → WalkGives s kind start target answer
-    asked-gives wrong asked gives =
-        subst (λ (got : Reading). ReadGives got s kind start target answer) (sym read)
-        (subst (λ (b : Bool). AskedGives b s kind start target answer) (sym asked) gives)
+  pub gives-read : (h : Header) → reading s ≡ Read h → AskedGives (askedWrongly (treeOf s) kind start target) (chassisOf s) kind start target answer
+      → WalkGives s kind start target answer
+  gives-read h read gives = subst (λ (got : Reading). ReadGives got s kind start target answer) (sym read) gives
 
-    pub gives-16 : askedWrongly (treeOf s) kind start target ≡ true → answer ≡ refusedWalk number16 → WalkGives s kind start target answer
-    gives-16 asked e = asked-gives true asked e
+  pub gives-alone : (h : Header) (none : List ℕ) → reading s ≡ Read h → none ≡ []
+      → AskedGives (askedWrongly (treeOf s) kind start target) (chassisOver s none) kind start target answer → WalkGives s kind start target answer
+  gives-alone h none read empty gives =
+      gives-read h read
+      (subst (λ (c : Chassis). AskedGives (askedWrongly (treeOf s) kind start target) c kind start target answer) (unpatched s none empty) gives)
 
-    pub gives-end : {packet : Packet} {from : Whereabouts} (w : Walked) → askedWrongly (treeOf s) kind start target ≡ false
-        → packet ≡ packetOf kind target → from ≡ comeTo start → Arrives (chassisOf s) packet from w → answer ≡ endedWalk w
-        → WalkGives s kind start target answer
-    gives-end w asked what where-from arrives e =
-        asked-gives false asked (w, subst₂ (λ (p : Packet) (x : Whereabouts). Arrives (chassisOf s) p x w) what where-from arrives, e)
+-- what a call that is not refused gives the walk
+module _ (c : Chassis) (sane : Sane (c .tree)) (kind start target : ℕ) (asked : askedWrongly (c .tree) kind start target ≡ false) where
+  started : Starts (c .tree) start
+  started = starts (c .tree) start (start-right (c .tree) kind start target asked)
 
--- what a picture that reads and a call that is not refused give the walk
-module _ (s : List ℕ) (h : Header) (read : reading s ≡ Read h) where
-  pub count-read : h .count ≡ countOf s
-  count-read = count-of s h (reads s h read .header)
+  pub small-start : start < 256
+  small-start = start-small c sane start started
 
-  pub sane-read : Sane (treeOf s)
-  sane-read = reads-sane s h (reads s h read)
-
-  pub count-few : h .count ≤ 64
-  count-few = rw count-read (sane-read .few)
-
-  module _ (kind start target : ℕ) (asked : askedWrongly (treeOf s) kind start target ≡ false) where
-    started : Starts (treeOf s) start
-    started = starts (treeOf s) start (start-right (treeOf s) kind start target asked)
-
-    pub small-start : start < 256
-    small-start = start-small (chassisOf s) sane-read start started
-
-    pub within-start : {from : Whereabouts} → from ≡ comeTo start → Within (chassisOf s) from
-    within-start e = subst (Within (chassisOf s)) (sym e) (start-within (chassisOf s) sane-read start started)
+  pub within-start : {from : Whereabouts} → from ≡ comeTo start → Within c from
+  within-start e = subst (Within c) (sym e) (start-within c sane start started)

@@ -4,3 +4,4 @@ pub mod Converting
 pub mod Walking
 pub mod Ends
 pub mod Checking
+pub mod Trying

@@ -12,7 +12,7 @@ use Rattle.picture.specs.declared.Refusal.{Refusal}
 abbrev pub number16 : Refusal
 number16 = record { number = 16; port = noPort }
 
--- numbers 6 to 10 name a port, 1 to 5 and 16 none
+-- numbers 6 to 10 name a port, 1 to 5, 16 and 30 to 32 none
 unfoldable pub refusalFinding : Refusal → Finding
 refusalFinding r =
     record { number = r .number; target = NoTarget; ports = cond (leb 6 (r .number) && leb (r .number) 10) (Only (r .port)) Nobody }

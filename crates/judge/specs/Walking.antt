@@ -26,15 +26,15 @@ unfoldable pub endedWalk : Walked → WalkAnswer
 endedWalk w = record { outcome = Ended (w .end); path = w .path }
 
 -- what the call gives: the refusal, or the end and the path to which the rules lead
-abbrev pub AskedGives : Bool → List ℕ → ℕ → ℕ → ℕ → WalkAnswer → Type 0
-AskedGives true s kind start target answer = answer ≡ refusedWalk number16
-AskedGives false s kind start target answer =
-    (w : Walked) × Arrives (chassisOf s) (packetOf kind target) (comeTo start) w × (answer ≡ endedWalk w)
+abbrev pub AskedGives : Bool → Chassis → ℕ → ℕ → ℕ → WalkAnswer → Type 0
+AskedGives true c kind start target answer = answer ≡ refusedWalk number16
+AskedGives false c kind start target answer =
+    (w : Walked) × Arrives c (packetOf kind target) (comeTo start) w × (answer ≡ endedWalk w)
 
 abbrev pub ReadGives : Reading → List ℕ → ℕ → ℕ → ℕ → WalkAnswer → Type 0
 ReadGives (NotRead r) s kind start target answer = answer ≡ refusedWalk r
 ReadGives (Read h) s kind start target answer =
-    AskedGives (askedWrongly (chassisOf s .tree) kind start target) s kind start target answer
+    AskedGives (askedWrongly (chassisOf s .tree) kind start target) (chassisOf s) kind start target answer
 
 abbrev pub WalkGives : List ℕ → ℕ → ℕ → ℕ → WalkAnswer → Type 0
 WalkGives s kind start target answer = ReadGives (reading s) s kind start target answer

@@ -16,7 +16,7 @@ pub fn check(s: &[u8]) -> CheckAnswer
     let Reading::Read(h) = got else {
         return CheckAnswer::Refused(refusal_of(got));
     };
-    CheckAnswer::Judged(verdicts::verdict(s, h.count as u8))
+    CheckAnswer::Judged(verdicts::verdict(s, patches::none(s), h.count as u8))
 }
 
 // What is said of the check's answer: the number, the target that it shows and the ports that it names.

@@ -20,5 +20,5 @@ pub fn claim(s: &[u8], port: u32, t: Target) -> ClaimAnswer
     if count <= port {
         return ClaimAnswer::Refused(number_16());
     }
-    ClaimAnswer::Claimed(claims::claims(s, PortNo(port as u8), t))
+    ClaimAnswer::Claimed(claims::claims(s, patches::none(s), PortNo(port as u8), t))
 }

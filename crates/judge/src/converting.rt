@@ -21,5 +21,10 @@ pub fn convert(s: &[u8], port: u32, rid: Rid) -> ConvertAnswer
     if count <= port {
         return ConvertAnswer::Refused(number_16());
     }
-    ConvertAnswer::Converted(claims::conversion(s, PortNo(port as u8), Target::Id(rid)))
+    ConvertAnswer::Converted(claims::conversion(
+        s,
+        patches::none(s),
+        PortNo(port as u8),
+        Target::Id(rid),
+    ))
 }

@@ -1,8 +1,9 @@
-// The library's calls: any bytes, any numbers, and one answer for each, with a file for every call.
+// The library's calls: any bytes, any numbers, and one answer for each, with a file for every call and one for the trials.
 mod checking;
 mod claiming;
 mod converting;
 mod refusals;
+mod trying;
 mod walking;
 
 use chassis::Conversion;
@@ -12,9 +13,13 @@ pub use checking::check;
 pub use checking::check_finding;
 pub use claiming::claim;
 pub use converting::convert;
+use patches::Place;
 use paths::Path;
 use picture::Refusal;
 pub use refusals::refusal_finding;
+pub use trying::trial_check;
+pub use trying::trial_part;
+pub use trying::trial_walk;
 pub use walking::walk;
 
 // Whether a port claims a target, or why that is not answered.
@@ -41,7 +46,13 @@ pub struct WalkAnswer {
     pub path: Path,
 }
 
-// What the check finds, or why the picture does not read.
+// Where a vector of a port lies, or why that is not answered.
+pub enum PartAnswer {
+    Refused(Refusal),
+    Lies(Place),
+}
+
+// What the check finds, or why the picture or the patch does not read.
 pub enum CheckAnswer {
     Refused(Refusal),
     Judged(Verdict),

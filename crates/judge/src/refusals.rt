@@ -10,7 +10,7 @@ ghost use Rattle.picture.specs.declared.Reading.the-variants.{Refused};
 ghost use Rattle.picture.specs.declared.Refusal.{Refusal};
 ghost use Rattle.judge.specs.Refusals.{number16, refusalFinding};
 
-// The refusal of a picture that does not read.
+// The refusal of a picture or a patch that does not read.
 pub fn refusal_of(got: Reading) -> Refusal
     ensures { λ r. ⌜ ((told : Refusal) → got ≡ Refused told → r ≡ told) ⌝ }
 {

@@ -16,8 +16,10 @@ ghost use mathlib.Core.Bool.{false};
 ghost use mathlib.Core.Path.{_≡_};
 ghost use Prim.Native.Nat.{_<_};
 ghost use Rattle.chassis.specs.Walk.{comeTo};
+ghost use Rattle.chassis.proofs.Tree.{Sane};
 ghost use Rattle.trees.specs.Trees.{countOf, treeOf};
-ghost use Rattle.judge.specs.Walking.{packetOf, idTooLarge, isStart, askedWrongly, refusedWalk, endedWalk, WalkGives};
+ghost use Rattle.claims.specs.Over.{chassisOver};
+ghost use Rattle.judge.specs.Walking.{packetOf, idTooLarge, isStart, askedWrongly, refusedWalk, endedWalk, AskedGives, WalkGives};
 
 // The start of a packet that comes from the host.
 const ROOT_START: u32 = 255;
@@ -79,7 +81,7 @@ fn start_of(start: u32) -> Whereabouts
 }
 
 // The answer of a call that is refused: nothing is crossed.
-fn refused(r: Refusal) -> WalkAnswer
+pub fn refused(r: Refusal) -> WalkAnswer
     ensures { λ a. ⌜ a ≡ refusedWalk r ⌝ }
 {
     WalkAnswer {
@@ -100,6 +102,25 @@ fn ended(w: Walked) -> WalkAnswer
     }
 }
 
+// Number 16, else where the packet ends, with every port crossed, over a picture of n ports that reads and a patch.
+pub fn walk_over<'a>(
+    s: &'a [u8],
+    patch: &'a [u8],
+    n: u8,
+    kind: u32,
+    start: u32,
+    target: u64,
+) -> WalkAnswer
+    requires { ⌜ n ≡ countOf (now s) ⌝ }
+    requires { ⌜ Sane (treeOf (now s)) ⌝ }
+    ensures { λ r. ⌜ AskedGives (askedWrongly (treeOf (now (s .entry))) kind start target) (chassisOver (now (s .entry)) (now (patch .entry))) kind start target r ⌝ }
+{
+    if asked_wrongly(s, n, kind, start, target) {
+        return refused(number_16());
+    }
+    ended(routes::walk_from(s, patch, n, packet_of(kind, target), start_of(start)))
+}
+
 // Numbers 1 to 10, then 16, else where the packet ends, with every port crossed.
 pub fn walk(s: &[u8], kind: u32, start: u32, target: u64) -> WalkAnswer
     ensures { λ r. ⌜ WalkGives (now (s .entry)) kind start target r ⌝ }
@@ -108,9 +129,5 @@ pub fn walk(s: &[u8], kind: u32, start: u32, target: u64) -> WalkAnswer
     let Reading::Read(h) = got else {
         return refused(refusal_of(got));
     };
-    let n = h.count as u8;
-    if asked_wrongly(s, n, kind, start, target) {
-        return refused(number_16());
-    }
-    ended(routes::walk_from(s, n, packet_of(kind, target), start_of(start)))
+    walk_over(s, patches::none(s), h.count as u8, kind, start, target)
 }

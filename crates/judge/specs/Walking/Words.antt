@@ -7,6 +7,7 @@ pub use lib.Dec.{eqb, leb, ltb}
 pub use Rattle.ids.specs.declared.Target.the-variants.{Id, Addr}
 pub use Rattle.chassis.specs.declared.Packet.{Packet}
 pub use Rattle.chassis.specs.declared.Packet.the-variants.{Plain, Config}
+pub use Rattle.chassis.specs.Chassis.{Chassis}
 pub use Rattle.chassis.specs.Tree.{Tree, root, isDevicePort}
 pub use Rattle.chassis.specs.Walk.{comeTo}
 pub use Rattle.paths.specs.Paths.{pathOf}

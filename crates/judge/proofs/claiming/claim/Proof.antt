@@ -1,39 +1,67 @@
-use Rattle.judge.proofs.Walks.{count-few}
-use native.Mathlib.Omega.{arith}
-use mathlib.Core.Path.{sym, _∙_}
-use borrow.Author.Tests.{le-ltb, lt-ltb}
+use Rattle.judge.specs.declared.ClaimAnswer.the-variants.{Refused, Claimed}
+use Rattle.chassis.specs.Chassis.{Chassis}
 use Rattle.judge.specs.Claiming.{claimOf}
+use borrow.Author.Tests.{le-ltb, lt-ltb}
+use Rattle.picture.proofs.WhatReads.{count-few}
+use mathlib.Core.Path.{sym, ap, _∙_}
+use native.Mathlib.Omega.{arith}
+use Rattle.claims.proofs.Over.{unpatched}
 use borrow.Author.Needs.{needs}
 use Rattle.judge.proofs.claiming.claim.Statement.{statement}
 use Rattle.judge.proofs.claiming.claim.Tie as tie
 
+read-requires : tie.Need-read-requires
+read-requires c κs = search needs
+
+enum-known-got : tie.Need-enum-known-got
+enum-known-got c = search needs
+
+enum-told : tie.Need-enum-told
+enum-told c = search needs
+
+refusal-of-requires : tie.Need-refusal-of-requires
+refusal-of-requires c κs = search needs
+
 returns : tie.Need-returns
 unfolding claimOf
-returns c = rw (c .refusal-of .ensures _ (c .before .enum-told .given .1), ← c .before .before .before .read .ensures, c .before .enum-told .given .1)
+returns c = rw (← c .before .before .before .read .ensures, c .before .enum-told .given .1) (ap Refused (c .refusal-of .ensures _ (c .before .enum-told .given .1)))
+
+cast-count : tie.Need-cast-count
+cast-count c = search needs
+
+number-16-requires : tie.Need-number-16-requires
+number-16-requires c κs = search needs
 
 returns-2 : tie.Need-returns-2
 unfolding claimOf
 returns-2 c = rw (c .number-16 .ensures, ← c .before .before .before .before .before .before .read .ensures, c .before .before .before .before .got .given .1) (simp (le-ltb _ _ (c .before .if1 .taken)))
 
-cast-t10 : tie.Need-cast-t10
-cast-t10 c = omega (arith, count-few _ _ (sym (c .before .before .before .before .before .read .ensures) ∙ c .before .before .before .got .given .1))
+none-requires : tie.Need-none-requires
+none-requires c κs = search needs
+
+cast-t11 : tie.Need-cast-t11
+cast-t11 c = omega (arith, count-few _ _ (sym (c .before .before .before .before .before .before .read .ensures) ∙ c .before .before .before .before .got .given .1))
+
+claims-requires : tie.Need-claims-requires
+claims-requires c κs = search needs
 
 returns-3 : tie.Need-returns-3
 unfolding claimOf
-returns-3 c = rw (c .claims .ensures, ← c .before .before .before .before .before .before .read .ensures, c .before .before .before .before .got .given .1) (simp (lt-ltb _ _ (c .before .if1 .left)))
+returns-3 c = rw (← c .before .before .before .before .before .before .before .read .ensures, c .before .before .before .before .before .got .given .1, lt-ltb _ _ (c .before .before .if1 .left)) (ap Claimed (c .claims .ensures ∙ ap (λ (x : Chassis). x .claims (c .before .before .before .before .before .before .before .before .before .args .port) (c .before .before .before .before .before .before .before .before .before .args .t)) (unpatched (c .before .before .before .before .before .before .before .before .before .args .s .now) (c .before .none .result .now) (c .before .none .ensures))))
 
 pub claim-spec : {M : Type 1} → statement M
 claim-spec =
     tie.close
     (tie.spec
-    (λ c κs. search needs)
-    (λ c. search needs)
-    (λ c. search needs)
-    (λ c κs. search needs)
+    read-requires
+    enum-known-got
+    enum-told
+    refusal-of-requires
     returns
-    (λ c. search needs)
-    (λ c κs. search needs)
+    cast-count
+    number-16-requires
     returns-2
-    cast-t10
-    (λ c κs. search needs)
+    none-requires
+    cast-t11
+    claims-requires
     returns-3)

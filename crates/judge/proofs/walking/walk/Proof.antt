@@ -1,55 +1,53 @@
+use Rattle.judge.proofs.Walks.{gives-unread, gives-alone}
 use Rattle.judge.specs.Walking.{refusedWalk}
-use mathlib.Core.Path.{ap}
-use Rattle.judge.proofs.Walks.{gives-unread, gives-16, gives-end, count-read, count-few, sane-read, id-fits, small-start, within-start}
+use Rattle.picture.proofs.WhatReads.{count-read, count-few, sane-read}
+use mathlib.Core.Path.{sym, ap, _∙_}
 use native.Mathlib.Omega.{arith}
-use mathlib.Core.Path.{sym, _∙_}
 use borrow.Author.Needs.{needs}
 use Rattle.judge.proofs.walking.walk.Statement.{statement}
 use Rattle.judge.proofs.walking.walk.Tie as tie
 
+read-requires : tie.Need-read-requires
+read-requires c κs = search needs
+
+enum-known-got : tie.Need-enum-known-got
+enum-known-got c = search needs
+
+enum-told : tie.Need-enum-told
+enum-told c = search needs
+
+refusal-of-requires : tie.Need-refusal-of-requires
+refusal-of-requires c κs = search needs
+
+refused-requires : tie.Need-refused-requires
+refused-requires c κs = search needs
+
 returns : tie.Need-returns
-returns c =
-    gives-unread _ _ _ _ _ _ (sym (c .before .before .before .before .read .ensures) ∙ c .before .before .enum-told .given .1)
-    (c .refused .ensures ∙ ap refusedWalk (c .before .refusal-of .ensures _ (c .before .before .enum-told .given .1)))
+returns c = gives-unread _ _ _ _ _ _ (sym (c .before .before .before .before .read .ensures) ∙ c .before .before .enum-told .given .1) (c .refused .ensures ∙ ap refusedWalk (c .before .refusal-of .ensures _ (c .before .before .enum-told .given .1)))
 
-cast-n : tie.Need-cast-n
-cast-n c = omega (arith, count-few _ _ (sym (c .before .before .before .before .read .ensures) ∙ c .before .before .got .given .1))
+none-requires : tie.Need-none-requires
+none-requires c κs = search needs
 
-asked-wrongly-requires : tie.Need-asked-wrongly-requires
-asked-wrongly-requires c κs = count-read _ _ (sym (c .before .before .before .before .read .ensures) ∙ c .before .before .got .given .1)
+cast-walk-over : tie.Need-cast-walk-over
+cast-walk-over c = omega (arith, count-few _ _ (sym (c .before .before .before .before .before .read .ensures) ∙ c .before .before .before .got .given .1))
+
+walk-over-requires : tie.Need-walk-over-requires
+walk-over-requires c κs = (count-read _ _ (sym (c .before .before .before .before .before .read .ensures) ∙ c .before .before .before .got .given .1), sane-read _ _ (sym (c .before .before .before .before .before .read .ensures) ∙ c .before .before .before .got .given .1))
 
 returns-2 : tie.Need-returns-2
-returns-2 c = gives-16 _ _ _ _ _ _ (sym (c .before .before .before .before .before .before .before .before .read .ensures) ∙ c .before .before .before .before .before .before .got .given .1) (sym (c .before .before .before .asked-wrongly .ensures) ∙ c .before .before .if1 .taken) (rw (← c .before .number-16 .ensures) (c .refused2 .ensures))
-
-packet-of-requires : tie.Need-packet-of-requires
-packet-of-requires c κs = id-fits _ _ _ _ (sym (c .before .asked-wrongly .ensures) ∙ c .if1 .left)
-
-start-of-requires : tie.Need-start-of-requires
-start-of-requires c κs = small-start _ _ (sym (c .before .before .before .before .before .before .before .read .ensures) ∙ c .before .before .before .before .before .got .given .1) _ _ _ (sym (c .before .before .asked-wrongly .ensures) ∙ c .before .if1 .left)
-
-walk-from-requires : tie.Need-walk-from-requires
-walk-from-requires c κs = (count-read _ _ (sym (c .before .before .before .before .before .before .before .before .read .ensures) ∙ c .before .before .before .before .before .before .got .given .1), (sane-read _ _ (sym (c .before .before .before .before .before .before .before .before .read .ensures) ∙ c .before .before .before .before .before .before .got .given .1), within-start _ _ (sym (c .before .before .before .before .before .before .before .before .read .ensures) ∙ c .before .before .before .before .before .before .got .given .1) _ _ _ (sym (c .before .before .before .asked-wrongly .ensures) ∙ c .before .before .if1 .left) (c .start-of .ensures)))
-
-returns-3 : tie.Need-returns-3
-returns-3 c = gives-end _ _ _ _ _ _ (sym (c .before .before .before .before .before .before .before .before .before .before .read .ensures) ∙ c .before .before .before .before .before .before .before .before .got .given .1) _ (sym (c .before .before .before .before .before .asked-wrongly .ensures) ∙ c .before .before .before .before .if1 .left) (c .before .before .before .packet-of .ensures) (c .before .before .start-of .ensures) (c .before .walk-from .ensures) (c .ended .ensures)
+returns-2 c = gives-alone _ _ _ _ _ _ _ (sym (c .before .before .before .before .before .before .read .ensures) ∙ c .before .before .before .before .got .given .1) (c .before .before .none .ensures) (c .walk-over .ensures)
 
 pub walk-spec : {M : Type 1} → statement M
 walk-spec =
     tie.close
     (tie.spec
-    (λ c κs. search needs)
-    (λ c. search needs)
-    (λ c. search needs)
-    (λ c κs. search needs)
-    (λ c κs. search needs)
+    read-requires
+    enum-known-got
+    enum-told
+    refusal-of-requires
+    refused-requires
     returns
-    cast-n
-    asked-wrongly-requires
-    (λ c κs. search needs)
-    (λ c κs. search needs)
-    returns-2
-    packet-of-requires
-    start-of-requires
-    walk-from-requires
-    (λ c κs. search needs)
-    returns-3)
+    none-requires
+    cast-walk-over
+    walk-over-requires
+    returns-2)

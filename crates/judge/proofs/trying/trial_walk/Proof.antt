@@ -1,0 +1,48 @@
+use Rattle.judge.specs.Walking.{refusedWalk}
+use Rattle.judge.proofs.Trials.{sane-tried, count-tried, few-tried, trial-walked, trial-unread}
+use mathlib.Core.Path.{sym, ap, _∙_}
+use native.Mathlib.Omega.{arith}
+use borrow.Author.Needs.{needs}
+use Rattle.judge.proofs.trying.trial_walk.Statement.{statement}
+use Rattle.judge.proofs.trying.trial_walk.Tie as tie
+
+read-requires : tie.Need-read-requires
+read-requires c κs = search needs
+
+enum-known-got : tie.Need-enum-known-got
+enum-known-got c = search needs
+
+enum-told : tie.Need-enum-told
+enum-told c = search needs
+
+refusal-of-requires : tie.Need-refusal-of-requires
+refusal-of-requires c κs = search needs
+
+refused-requires : tie.Need-refused-requires
+refused-requires c κs = search needs
+
+returns : tie.Need-returns
+returns c = trial-unread _ _ _ _ _ _ _ (sym (c .before .before .before .before .read .ensures) ∙ c .before .before .enum-told .given .1) (c .refused .ensures ∙ ap refusedWalk (c .before .refusal-of .ensures _ (c .before .before .enum-told .given .1)))
+
+cast-walk-over : tie.Need-cast-walk-over
+cast-walk-over c = omega (arith, few-tried _ _ _ (sym (c .before .before .before .before .read .ensures) ∙ c .before .before .got .given .1))
+
+walk-over-requires : tie.Need-walk-over-requires
+walk-over-requires c κs = (count-tried _ _ _ (sym (c .before .before .before .before .read .ensures) ∙ c .before .before .got .given .1), sane-tried _ _ _ (sym (c .before .before .before .before .read .ensures) ∙ c .before .before .got .given .1))
+
+returns-2 : tie.Need-returns-2
+returns-2 c = trial-walked _ _ _ (sym (c .before .before .before .before .before .read .ensures) ∙ c .before .before .before .got .given .1) _ _ _ _ (c .walk-over .ensures)
+
+pub trial-walk-spec : {M : Type 1} → statement M
+trial-walk-spec =
+    tie.close
+    (tie.spec
+    read-requires
+    enum-known-got
+    enum-told
+    refusal-of-requires
+    refused-requires
+    returns
+    cast-walk-over
+    walk-over-requires
+    returns-2)
