@@ -41,6 +41,7 @@ use Rattle.trees.specs.Trees.{treeOf}
 use Rattle.claims.specs.Claims.{chassisOf}
 use Rattle.routes.specs.declared.Walked.{Walked}
 use Rattle.routes.specs.Routes.{Arrives}
+use Rattle.judge.specs.declared.CheckAnswer.{CheckAnswer}
 use Rattle.judge.specs.declared.CheckAnswer.the-variants.{Judged}
 use Rattle.judge.specs.declared.WalkAnswer.{WalkAnswer}
 use Rattle.judge.specs.declared.Outcome.the-variants.{Ended}
@@ -51,13 +52,19 @@ use Rattle.judge.specs.Claiming.{claimOf, claimAnswer}
 use Rattle.judge.specs.Converting.{convertOf, convertAnswer}
 use Rattle.judge.specs.Refusals.{number16, refusalFinding}
 use Rattle.judge.specs.Walking.{packetOf, askedWrongly, refusedWalk, endedWalk, AskedGives, ReadGives, WalkGives}
-use Rattle.judge.proofs.Walks.{walk-only, sane-read, within-start}
-use Rattle.fiswalend.specs.Calls.{tooShort, returned, written, WalkLeaves, WalkCall}
+use Rattle.judge.specs.Trying.{trialCheck, TriedGives, TrialGives}
+use Rattle.judge.proofs.Trials.{trial-only}
+use Rattle.judge.proofs.Walks.{walk-only, within-start}
+use Rattle.picture.proofs.WhatReads.{sane-read}
+use Rattle.patches.specs.Patched.{patched}
+use Rattle.patches.specs.Reading.{readingWith}
+use Rattle.fiswalend.specs.Calls.{tooShort, returned, written, WalkLeaves}
+use Rattle.fiswalend.specs.Found.{findingBytes}
 use Rattle.fiswalend.specs.Walked.{walkBytes}
 use Rattle.judge.specs.Ends.{outcomeNumber}
 use Rattle.fiswalend.proofs.Forty.{under-40}
-use Rattle.fiswalend.proofs.WalkCalls.{walk-call-only}
-use Rattle.demands.specs.Demands.{Demand1, Demand1Buffer, Demand2, Demand3, Names, Overlap, OverlapExactly}
+use Rattle.fiswalend.proofs.WalkCalls.{leaves-only}
+use Rattle.demands.specs.Demands.{Demand1, OneBuffer, CheckCall, Demand1Buffer, Names, WalksIn, Demand2, Demand3, Overlap, FailsExactly, OverlapExactly}
 use Rattle.demands.proofs.Numbers.{reading-in-table, check-numbered, claim-numbered, convert-numbered, walk-numbered, never-zero}
 
 pub demand-1 : (s : List ℕ) → Demand1 s
@@ -93,10 +100,10 @@ module _ (s : List ℕ) (kind start target : ℕ) where
   answered = read (reading s) refl
     where
       asked : (h : Header) → reading s ≡ Read h → (wrong : Bool) → askedWrongly (treeOf s) kind start target ≡ wrong
-          → (a : WalkAnswer) × AskedGives wrong s kind start target a
+          → (a : WalkAnswer) × AskedGives wrong (chassisOf s) kind start target a
       asked h is true wrong = (refusedWalk number16, refl)
       asked h is false right =
-          let w = walk-exists (chassisOf s) (packetOf kind target) (sane-read s h is) (comeTo start) (within-start s h is kind start target right refl) in
+          let w = walk-exists (chassisOf s) (packetOf kind target) (sane-read s h is) (comeTo start) (within-start (chassisOf s) (sane-read s h is) kind start target right refl) in
           let walked : Walked = record { path = pathOf (w .path); end = w .end } in
           (endedWalk walked, (walked, record { crossed = w .path; walk = w .walk; named = refl }, refl))
 
@@ -108,7 +115,7 @@ module _ (s : List ℕ) (kind start target : ℕ) where
   Named a e = (crossed : List PortNo) × Walk (chassisOf s) (packetOf kind target) (comeTo start) crossed e × Names (a .path) crossed
 
   asked-named : (a : WalkAnswer) (e : End) (h : Header) → reading s ≡ Read h → (wrong : Bool) → askedWrongly (treeOf s) kind start target ≡ wrong
-      → AskedGives wrong s kind start target a → a .outcome ≡ Ended e → Named a e
+      → AskedGives wrong (chassisOf s) kind start target a → a .outcome ≡ Ended e → Named a e
   unfolding refusedWalk endedWalk Named
   asked-named a e h is true wrong gives ended =
       let told = ap (λ (x : WalkAnswer). x .outcome) gives in
@@ -119,7 +126,7 @@ module _ (s : List ℕ) (kind start target : ℕ) where
       let gives = given .2 in
       let told = ap (λ (x : WalkAnswer). x .outcome) gives in
       let same : w .end ≡ e = cc in
-      let within = within-start s h is kind start target right refl in
+      let within = within-start (chassisOf s) (sane-read s h is) kind start target right refl in
       let short = le-trans (walk-short (chassisOf s) (packetOf kind target) (sane-read s h is) within (arrives .walk)) (left-most (chassisOf s) (comeTo start)) in (
         arrives .crossed,
         subst (λ (x : End). Walk (chassisOf s) (packetOf kind target) (comeTo start) (arrives .crossed) x) same (arrives .walk),
@@ -133,42 +140,66 @@ module _ (s : List ℕ) (kind start target : ℕ) where
       impossible (cc)
   read-named a e (Read h) is gives ended = asked-named a e h is (askedWrongly (treeOf s) kind start target) refl gives ended
 
-pub demand-1-buffer : (s before : List ℕ) → Demand1Buffer s before
-unfolding returned written
-demand-1-buffer s before =
-    record {
-      check = λ short. (rw (under-40 before short), rw (under-40 before short));
-      walk = λ short kind start target number after call. untouched kind start target number after (under-40 before short) call;
-      answers = λ kind start target. called kind start target (tooShort before) refl;
-      only = λ kind start target m n x y. walk-call-only s kind start target before m n x y;
-    }
-  where
-    untouched : (kind start target number : ℕ) (after : List ℕ) → tooShort before ≡ true → WalkCall s kind start target before number after
-        → (number ≡ 17) × (after ≡ before)
-    untouched kind start target number after short call =
-        subst (λ (b : Bool). WalkLeaves b s kind start target before number after) short call
-
-    called : (kind start target : ℕ) (short : Bool) → tooShort before ≡ short
-        → (number : ℕ) × (after : List ℕ) × WalkCall s kind start target before number after
-    called kind start target true short = (17, before, subst (λ (b : Bool). WalkLeaves b s kind start target before 17 before) (sym short) (refl, refl))
-    called kind start target false long =
-        let a = answered s kind start target in (
-          outcomeNumber (a .0 .outcome),
-          walkBytes (a .0) ++ drop 40 before,
-          subst (λ (b : Bool). WalkLeaves b s kind start target before (outcomeNumber (a .0 .outcome)) (walkBytes (a .0) ++ drop 40 before)) (sym long)
-              (a .0, a .1, refl, refl),
-        )
-
-pub demand-2 : (s : List ℕ) → Demand2 s
+pub walks-in : (s : List ℕ) → WalksIn (chassisOf s) (WalkGives s)
 unfolding Named
-demand-2 s =
+walks-in s =
     record {
-      claims = claims-it s;
-      converts = converts-it s;
       answers = answered s;
       only = walk-only s;
       named = λ kind start target a e gives ended. read-named s kind start target a e (reading s) refl gives ended;
     }
+
+-- a buffer under 40 bytes, and one that the answer fits in
+module _ (before : List ℕ) where
+  one-check : (a : CheckAnswer) → OneBuffer before (CheckCall a before)
+  unfolding returned written
+  one-check a =
+      record {
+        short = λ l number after call. (call .0 ∙ rw (under-40 before l), call .1 ∙ rw (under-40 before l));
+        answers = (returned before (checkNumber a), written before (findingBytes (checkFinding a)), (refl, refl));
+        only = λ m n x y v w. (v .0 ∙ sym (w .0), v .1 ∙ sym (w .1));
+      }
+
+  one-walk : (Gives : WalkAnswer → Type 0) → ((a b : WalkAnswer) → Gives a → Gives b → a ≡ b) → (a : WalkAnswer) → Gives a
+      → OneBuffer before (WalkLeaves (tooShort before) Gives before)
+  one-walk Gives one a gives =
+      record {
+        short = λ l number after call. subst (λ (b : Bool). WalkLeaves b Gives before number after) (under-40 before l) call;
+        answers = called (tooShort before) refl;
+        only = leaves-only Gives one before;
+      }
+    where
+      called : (short : Bool) → tooShort before ≡ short → (number : ℕ) × (after : List ℕ) × WalkLeaves (tooShort before) Gives before number after
+      called true short = (17, before, subst (λ (b : Bool). WalkLeaves b Gives before 17 before) (sym short) (refl, refl))
+      called false long = (
+        outcomeNumber (a .outcome),
+        walkBytes a ++ drop 40 before,
+        subst (λ (b : Bool). WalkLeaves b Gives before (outcomeNumber (a .outcome)) (walkBytes a ++ drop 40 before)) (sym long)
+            (a, gives, refl, refl),
+      )
+
+pub tried : (s patch : List ℕ) (kind start target : ℕ) → (a : WalkAnswer) × TrialGives s patch kind start target a
+tried s patch kind start target = go (readingWith s patch)
+  where
+    go : (got : Reading) → (a : WalkAnswer) × TriedGives got (patched s patch) kind start target a
+    go (NotRead r) = (refusedWalk r, refl)
+    go (Read h) = answered (patched s patch) kind start target
+
+pub demand-1-buffer : (s before : List ℕ) → Demand1Buffer s before
+demand-1-buffer s before =
+    record {
+      check = one-check before (checkAnswer s);
+      walk = λ kind start target.
+          let a = answered s kind start target in
+          one-walk before (WalkGives s kind start target) (walk-only s kind start target) (a .0) (a .1);
+      trial-check = λ patch. one-check before (trialCheck s patch);
+      trial-walk = λ patch kind start target.
+          let a = tried s patch kind start target in
+          one-walk before (TrialGives s patch kind start target) (trial-only s patch kind start target) (a .0) (a .1);
+    }
+
+pub demand-2 : (s : List ℕ) → Demand2 s
+demand-2 s = record { claims = claims-it s; converts = converts-it s; walks = walks-in s }
 
 -- a verdict of number 0 is Clear
 clear-only : (v : Verdict) → findingOf v .number ≡ 0 → v ≡ Clear
@@ -192,7 +223,7 @@ demand-3 s passed t range = go (reading s) refl passed
         (record { unshared = says .0 Faulty·Shared t range; unstrayed = says .0 Faulty·Stray t range })
 
 -- the answer for a picture that reads is the verdict of its chassis
-judged : (s : List ℕ) (h : Header) → reading s ≡ Read h → checkAnswer s ≡ Judged (verdictOf (chassisOf s))
+pub judged : (s : List ℕ) (h : Header) → reading s ≡ Read h → checkAnswer s ≡ Judged (verdictOf (chassisOf s))
 unfolding checkOf
 judged s h is = rw is
 
@@ -220,20 +251,26 @@ module _ (c : Chassis) where
   overlap-given o (Stray t p) says = unseen o (says .0)
   overlap-given o (Lost p) says = unseen o (says .0 Faulty·Shared)
 
-pub overlap-exactly : (s : List ℕ) → OverlapExactly s
-unfolding checkOf checkFinding
-overlap-exactly s =
+-- a check that gives the verdict of a chassis where the lent bytes read
+pub fails-exactly : (got : Reading) (a : CheckAnswer) (c : Chassis) → ((h : Header) → got ≡ Read h → a ≡ Judged (verdictOf c))
+    → ((v : Verdict) → a ≡ Judged v → verdictOf c ≡ v) → FailsExactly got a c
+unfolding checkFinding
+fails-exactly got a c judges same =
     record {
       exactly = λ h is. (
-        λ e. overlap-told (chassisOf s) (verdictOf (chassisOf s)) (verdict-says (chassisOf s)) (subst Either (number h is) e),
-        λ o. subst Either (sym (number h is)) (overlap-given (chassisOf s) o (verdictOf (chassisOf s)) (verdict-says (chassisOf s))),
+        λ e. overlap-told c (verdictOf c) (verdict-says c) (subst Either (ap checkNumber (judges h is)) e),
+        λ o. subst Either (sym (ap checkNumber (judges h is))) (overlap-given c o (verdictOf c) (verdict-says c)),
       );
-      shown = λ v e. subst (Says (chassisOf s)) (same v (reading s) e) (verdict-says (chassisOf s));
+      shown = λ v e. subst (Says c) (same v e) (verdict-says c);
     }
-  where
-    number : (h : Header) → reading s ≡ Read h → checkNumber (checkAnswer s) ≡ findingOf (verdictOf (chassisOf s)) .number
-    number h is = ap checkNumber (judged s h is)
 
-    same : (v : Verdict) (got : Reading) → checkOf got s ≡ Judged v → verdictOf (chassisOf s) ≡ v
-    same v (NotRead r) e = impossible (cc)
-    same v (Read h) e = cc
+pub judged-only : (s : List ℕ) (v : Verdict) → checkAnswer s ≡ Judged v → verdictOf (chassisOf s) ≡ v
+unfolding checkOf
+judged-only s v = go (reading s)
+  where
+    go : (got : Reading) → checkOf got s ≡ Judged v → verdictOf (chassisOf s) ≡ v
+    go (NotRead r) e = impossible (cc)
+    go (Read h) e = cc
+
+pub overlap-exactly : (s : List ℕ) → OverlapExactly s
+overlap-exactly s = fails-exactly (reading s) (checkAnswer s) (chassisOf s) (judged s) (judged-only s)

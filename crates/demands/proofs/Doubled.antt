@@ -23,7 +23,7 @@ use Rattle.claims.specs.Claims.{chassisOf}
 use Rattle.judge.specs.declared.CheckAnswer.the-variants.{Judged}
 use Rattle.judge.specs.Checking.{checkOf, checkAnswer, checkFinding, checkNumber}
 use Rattle.demands.specs.Demands.{Overlap}
-use Rattle.demands.specs.Worked.{zeros, u16, u32, headerFor, recordOf, chassisWith, doubled}
+use Rattle.demands.specs.Worked.{zeros, u16, u32, headerFor, recordOf, switchWith, doubled}
 use Rattle.demands.proofs.Demands.{overlap-exactly}
 use Rattle.demands.proofs.Tests.{either-or}
 use Rattle.demands.proofs.FourPorts.{fourPorts, reads, id, unshared-where}
@@ -34,19 +34,19 @@ c = chassisOf doubled
 -- below 0300h no ID is held by two ports, and none is claimed by the port whose own it is
 module _ (n : ℕ) (below : n < 0x0300) where
   unclaimed : c .claims 2 (id n) ≡ false
-  unfolding zeros u16 u32 headerFor recordOf chassisWith u16At u32At bridgeAt fpbAt portAt recordAt busClaims vectorClaims claimsId
+  unfolding zeros u16 u32 headerFor recordOf switchWith u16At u32At bridgeAt fpbAt portAt recordAt busClaims vectorClaims claimsId
   unclaimed = rw (lt-leb 3 (busOf n) (omega arith))
 
   held-apart : (holds c (id n) 2 && holds c (id n) 3) ≡ false
-  unfolding zeros u16 u32 headerFor recordOf chassisWith u16At u32At bridgeAt fpbAt portAt recordAt busClaims vectorClaims claimsId holds
+  unfolding zeros u16 u32 headerFor recordOf switchWith u16At u32At bridgeAt fpbAt portAt recordAt busClaims vectorClaims claimsId holds
   held-apart = either-or 0x0200 n (λ m. c .claims 2 (id m)) (λ m. holds c (id m) 3) refl (rw unclaimed)
 
   unshared : faulty Faulty·Shared c (id n) ≡ false
-  unfolding zeros u16 u32 headerFor recordOf chassisWith u16At u32At bridgeAt fpbAt portAt recordAt busClaims vectorClaims claimsId
+  unfolding zeros u16 u32 headerFor recordOf switchWith u16At u32At bridgeAt fpbAt portAt recordAt busClaims vectorClaims claimsId
   unshared = unshared-where 3 n refl held-apart
 
 both-hold : faulty Faulty·Shared c (id 0x0300) ≡ true
-unfolding zeros u16 u32 headerFor recordOf chassisWith u16At u32At bridgeAt fpbAt portAt recordAt busClaims vectorClaims claimsId holds anyBelow clash clashesWith faulty
+unfolding zeros u16 u32 headerFor recordOf switchWith u16At u32At bridgeAt fpbAt portAt recordAt busClaims vectorClaims claimsId holds anyBelow clash clashesWith faulty
 both-hold = refl
 
 least : leastTarget (faulty Faulty·Shared c) Ids ≡ At 0x0300
@@ -55,7 +55,7 @@ least =
     (record { from = zero-le; below = omega arith; holds = both-hold; first = record { none = λ n l below. unshared n below } })
 
 pair : (firstOfPair c (id 0x0300) ≡ portNo 2) × (lowestPort c (clash c (id 0x0300) 2) ≡ portNo 3)
-unfolding zeros u16 u32 headerFor recordOf chassisWith u16At u32At bridgeAt fpbAt portAt recordAt busClaims vectorClaims claimsId holds anyBelow clash clashesWith firstOf firstIn
+unfolding zeros u16 u32 headerFor recordOf switchWith u16At u32At bridgeAt fpbAt portAt recordAt busClaims vectorClaims claimsId holds anyBelow clash clashesWith firstOf firstIn
 pair = (refl, refl)
 
 -- the least such target is shown, with its ports

@@ -20,31 +20,31 @@ use Rattle.picture.specs.declared.Reading.the-variants.{Read}
 use Rattle.picture.specs.Reading.{breaks, misplacedIn, portsReading, reading}
 use Rattle.claims.specs.Decoders.{busClaims, vectorClaims, claimsId}
 use Rattle.claims.specs.Claims.{chassisOf}
-use Rattle.demands.specs.Worked.{zeros, u16, u32, headerFor, recordOf, chassisWith}
+use Rattle.demands.specs.Worked.{zeros, u16, u32, headerFor, recordOf, switchWith}
 use Rattle.demands.proofs.Tests.{just}
 
 -- four ports, and no vectors
 abbrev pub fourPorts : Header
 fourPorts = record { edition = 1; count = 4; total = 240; «records_at» = 16; «vectors_at» = 240 }
 
-pub reads : (bus : ℕ) → reading (chassisWith bus) ≡ Read fourPorts
-unfolding zeros u16 u32 headerFor recordOf chassisWith reading portsReading misplacedIn breaks runningOffset placeWrong endWrong headerOf lengthWrong editionWrong countWrong totalWrong offsetWrong sizeReserved granularityAllowed mechanismWrong memoryBitsWrong settingsWrong withAri startBroken startWrong settingsOf vectorBytes bridgeAt fpbAt portAt recordAt anyBelow upstreamBroken downstreamBroken treeBroken oneAbove above chainTooLong firstOf firstIn u16At u32At
+pub reads : (bus : ℕ) → reading (switchWith bus) ≡ Read fourPorts
+unfolding zeros u16 u32 headerFor recordOf switchWith reading portsReading misplacedIn breaks runningOffset placeWrong endWrong headerOf lengthWrong editionWrong countWrong totalWrong offsetWrong sizeReserved granularityAllowed mechanismWrong memoryBitsWrong settingsWrong withAri startBroken startWrong settingsOf vectorBytes bridgeAt fpbAt portAt recordAt anyBelow upstreamBroken downstreamBroken treeBroken oneAbove above chainTooLong firstOf firstIn u16At u32At
 reads bus = refl
 
 abbrev pub id : ℕ → Target
 id n = Id (record { 0 = n })
 
 -- port 3 must not claim its own ID; the others do not
-pub unshared-where : (bus n : ℕ) → chassisOf (chassisWith bus) .claims 3 (id 0x0208) ≡ false
-    → (holds (chassisOf (chassisWith bus)) (id n) 2 && holds (chassisOf (chassisWith bus)) (id n) 3) ≡ false
-    → faulty Shared (chassisOf (chassisWith bus)) (id n) ≡ false
-unfolding zeros u16 u32 headerFor recordOf chassisWith u16At u32At bridgeAt fpbAt portAt recordAt busClaims vectorClaims claimsId anyBelow clash clashesWith faulty
+pub unshared-where : (bus n : ℕ) → chassisOf (switchWith bus) .claims 3 (id 0x0208) ≡ false
+    → (holds (chassisOf (switchWith bus)) (id n) 2 && holds (chassisOf (switchWith bus)) (id n) 3) ≡ false
+    → faulty Shared (chassisOf (switchWith bus)) (id n) ≡ false
+unfolding zeros u16 u32 headerFor recordOf switchWith u16At u32At bridgeAt fpbAt portAt recordAt busClaims vectorClaims claimsId anyBelow clash clashesWith faulty
 unshared-where bus n own apart =
     simp (
-      just 0x0008 n (λ m. chassisOf (chassisWith bus) .claims 0 (id m)) refl,
-      just 0x0100 n (λ m. chassisOf (chassisWith bus) .claims 1 (id m)) refl,
-      just 0x0200 n (λ m. chassisOf (chassisWith bus) .claims 2 (id m)) refl,
-      just 0x0208 n (λ m. chassisOf (chassisWith bus) .claims 3 (id m)) own,
+      just 0x0008 n (λ m. chassisOf (switchWith bus) .claims 0 (id m)) refl,
+      just 0x0100 n (λ m. chassisOf (switchWith bus) .claims 1 (id m)) refl,
+      just 0x0200 n (λ m. chassisOf (switchWith bus) .claims 2 (id m)) refl,
+      just 0x0208 n (λ m. chassisOf (switchWith bus) .claims 3 (id m)) own,
       apart,
-      and-comm (holds (chassisOf (chassisWith bus)) (id n) 3) (holds (chassisOf (chassisWith bus)) (id n) 2) ∙ apart,
+      and-comm (holds (chassisOf (switchWith bus)) (id n) 3) (holds (chassisOf (switchWith bus)) (id n) 2) ∙ apart,
     )

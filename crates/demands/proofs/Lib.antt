@@ -1,7 +1,9 @@
 pub mod Numbers
 pub mod Demands
+pub mod Trials
 pub mod Tests
 pub mod FourPorts
 pub mod Worked
 pub mod WorkedWalks
 pub mod Doubled
+pub mod WorkedTrial

@@ -2,6 +2,7 @@
 use Prim.Native.Nat.{ℕ}
 use mathlib.Core.Bool.{Bool, true, false, cond, _||_}
 use mathlib.Core.List.{List, [], _∷_, _++_}
+use mathlib.Core.Logic.{_⊎_, inl, inr, ⊎-elim}
 use mathlib.Core.Path.{_≡_, refl, sym, ap, subst, _∙_}
 use lib.ListN.{length}
 use lib.Dec.{eqb, ltb}
@@ -32,10 +33,15 @@ use Rattle.judge.specs.Converting.{convertOf, convertAnswer, convertNumber}
 use Rattle.judge.specs.Ends.{outcomeNumber}
 use Rattle.judge.specs.Refusals.{number16, refusalFinding}
 use Rattle.judge.specs.Walking.{askedWrongly, refusedWalk, endedWalk, AskedGives, ReadGives, WalkGives}
-use Rattle.demands.specs.Demands.{oneOf, ofReading, ofCheck, ofAsking}
+use Rattle.registers.specs.declared.Mechanism.{Mechanism}
+use Rattle.patches.specs.Patch.{headerMisfits, portsMisplaced, vectorsMisplaced}
+use Rattle.patches.specs.Patched.{patched}
+use Rattle.patches.specs.Reading.{patchReading, readingWith}
+use Rattle.judge.specs.Trying.{triedCheck, trialCheck, TriedGives, TrialGives, triedPart, trialPart, partNumber}
+use Rattle.demands.specs.Demands.{oneOf, ofReading, ofCheck, ofAsking, ofPatch}
 
 -- a number of one list is one of a longer list
-in-more : (xs ys : List ℕ) (n : ℕ) → oneOf xs n ≡ true → oneOf (xs ++ ys) n ≡ true
+pub in-more : (xs ys : List ℕ) (n : ℕ) → oneOf xs n ≡ true → oneOf (xs ++ ys) n ≡ true
 in-more [] ys n e = impossible (cc)
 in-more (x ∷ xs) ys n e = go (eqb n x) (in-more xs ys n) e
   where
@@ -143,10 +149,87 @@ module _ (s : List ℕ) where
   unfolding refusedWalk endedWalk
   walk-numbered kind start target a = go (reading s) (reading-numbered s)
     where
-      asked : (wrong : Bool) → AskedGives wrong s kind start target a → oneOf ofAsking (outcomeNumber (a .outcome)) ≡ true
+      asked : (wrong : Bool) → AskedGives wrong (chassisOf s) kind start target a → oneOf ofAsking (outcomeNumber (a .outcome)) ≡ true
       asked true e = rw e
       asked false e = rw (e .2)
 
       go : (got : Reading) → Numbered got → ReadGives got s kind start target a → oneOf ofAsking (outcomeNumber (a .outcome)) ≡ true
       go (Refused r) told e = rw e (refusal-of-table (16 ∷ []) (r .number) told)
       go (Read h) told e = asked (askedWrongly (chassisOf s .tree) kind start target) e
+
+-- the numbers of a patch beside those of a list
+in-patch : (xs : List ℕ) (n : ℕ) → oneOf ofPatch n ≡ true → oneOf (xs ++ ofPatch) n ≡ true
+in-patch [] n e = e
+in-patch (x ∷ xs) n e = go (eqb n x) (in-patch xs n e)
+  where
+    go : (b : Bool) → oneOf (xs ++ ofPatch) n ≡ true → (b || oneOf (xs ++ ofPatch) n) ≡ true
+    go true other = refl
+    go false other = other
+
+-- a refusal of picture or patch is one of 1 to 10 or one of 30 to 32
+abbrev Tried : Reading → Type 0
+Tried (Read h) = Unit {0}
+Tried (Refused r) = (oneOf refusals (r .number) ≡ true) ⊎ (oneOf ofPatch (r .number) ≡ true)
+
+tried-if : (wrong : Bool) (number port : ℕ) (rest : Reading) → oneOf ofPatch number ≡ true → Tried rest → Tried (refusedIf wrong number port rest)
+tried-if true number port rest is other = inr is
+tried-if false number port rest is other = other
+
+reading-tried : (s patch : List ℕ) → Tried (readingWith s patch)
+unfolding patchReading
+reading-tried s patch = go (reading s) (reading-numbered s)
+  where
+    go : (got : Reading) → Numbered got → Tried (patchReading got s patch)
+    go (Refused r) told = inl told
+    go (Read h) told =
+        tried-if (headerMisfits patch) 30 255 _ refl
+        (tried-if (portsMisplaced (h .count) patch) 31 255 _ refl
+        (tried-if (vectorsMisplaced s patch) 32 255 _ refl tt))
+
+tried-of-table : (others : List ℕ) (n : ℕ) → (oneOf refusals n ≡ true) ⊎ (oneOf ofPatch n ≡ true) → oneOf ((ofReading ++ others) ++ ofPatch) n ≡ true
+tried-of-table others n told =
+    ⊎-elim (λ e. in-more (ofReading ++ others) ofPatch n (refusal-of-table others n e)) (λ e. in-patch (ofReading ++ others) n e) told
+
+pub tried-never-zero : (s patch : List ℕ) (r : Refusal) → readingWith s patch ≡ Refused r → r .number ≡ 0 → ⊥
+tried-never-zero s patch r e none =
+    ⊎-elim (λ told. let zero : oneOf refusals 0 ≡ true = subst (λ (n : ℕ). oneOf refusals n ≡ true) none told in impossible (cc))
+    (λ told. let zero : oneOf ofPatch 0 ≡ true = subst (λ (n : ℕ). oneOf ofPatch n ≡ true) none told in impossible (cc))
+    (subst Tried e (reading-tried s patch))
+
+module _ (s patch : List ℕ) where
+  pub tried-in-table : oneOf (ofReading ++ ofPatch) (numberOf (readingWith s patch)) ≡ true
+  tried-in-table = go (readingWith s patch) (reading-tried s patch)
+    where
+      go : (got : Reading) → Tried got → oneOf (ofReading ++ ofPatch) (numberOf got) ≡ true
+      go (Refused r) told = tried-of-table [] (r .number) told
+      go (Read h) told = refl
+
+  pub trial-check-numbered : oneOf (ofCheck ++ ofPatch) (checkNumber (trialCheck s patch)) ≡ true
+  unfolding triedCheck checkFinding refusalFinding
+  trial-check-numbered = go (readingWith s patch) (reading-tried s patch)
+    where
+      go : (got : Reading) → Tried got → oneOf (ofCheck ++ ofPatch) (checkNumber (triedCheck got (patched s patch))) ≡ true
+      go (Refused r) told = tried-of-table (11 ∷ 12 ∷ 13 ∷ 14 ∷ 15 ∷ []) (r .number) told
+      go (Read h) told = in-more ofCheck ofPatch (checkNumber (checkAnswer (patched s patch))) (check-numbered (patched s patch))
+
+  pub trial-walk-numbered : (kind start target : ℕ) (a : WalkAnswer) → TrialGives s patch kind start target a
+      → oneOf (ofAsking ++ ofPatch) (outcomeNumber (a .outcome)) ≡ true
+  unfolding refusedWalk
+  trial-walk-numbered kind start target a = go (readingWith s patch) (reading-tried s patch)
+    where
+      go : (got : Reading) → Tried got → TriedGives got (patched s patch) kind start target a
+          → oneOf (ofAsking ++ ofPatch) (outcomeNumber (a .outcome)) ≡ true
+      go (Refused r) told e = rw e (tried-of-table (16 ∷ []) (r .number) told)
+      go (Read h) told e = in-more ofAsking ofPatch (outcomeNumber (a .outcome)) (walk-numbered (patched s patch) kind start target a e)
+
+  pub trial-part-numbered : (port : ℕ) (m : Mechanism) → oneOf (ofAsking ++ ofPatch) (partNumber (trialPart s patch port m)) ≡ true
+  unfolding triedPart
+  trial-part-numbered port m = go (readingWith s patch) (reading-tried s patch)
+    where
+      below : (b : Bool) (h : Header) → ltb port (h .count) ≡ b → oneOf (ofAsking ++ ofPatch) (partNumber (triedPart (Read h) s patch port m)) ≡ true
+      below true h e = rw e
+      below false h e = rw e
+
+      go : (got : Reading) → Tried got → oneOf (ofAsking ++ ofPatch) (partNumber (triedPart got s patch port m)) ≡ true
+      go (Refused r) told = tried-of-table (16 ∷ []) (r .number) told
+      go (Read h) told = below (ltb port (h .count)) h refl

@@ -17,13 +17,13 @@ use Rattle.claims.specs.Conversion.{inSecondaryRange, convertedByBus, converted
 use Rattle.claims.specs.Claims.{chassisOf}
 use Rattle.judge.specs.Walking.{packetOf, idTooLarge, isStart, askedWrongly, endedWalk, WalkGives}
 use Rattle.trees.specs.Trees.{treeOf}
-use Rattle.demands.specs.Worked.{zeros, u16, u32, headerFor, recordOf, chassisWith, portNos, cameTo, WorkedWalks}
+use Rattle.demands.specs.Worked.{zeros, u16, u32, headerFor, recordOf, switchWith, portNos, cameTo, WorkedWalks}
 use Rattle.demands.proofs.FourPorts.{reads}
 
 -- an answer that the rules lead to is given
-given : (bus kind start target : ℕ) (crossed : List ℕ) (end : End) → askedWrongly (treeOf (chassisWith bus)) kind start target ≡ false
-    → Walk (chassisOf (chassisWith bus)) (packetOf kind target) (comeTo start) (portNos crossed) end
-    → WalkGives (chassisWith bus) kind start target (cameTo end crossed)
+given : (bus kind start target : ℕ) (crossed : List ℕ) (end : End) → askedWrongly (treeOf (switchWith bus)) kind start target ≡ false
+    → Walk (chassisOf (switchWith bus)) (packetOf kind target) (comeTo start) (portNos crossed) end
+    → WalkGives (switchWith bus) kind start target (cameTo end crossed)
 unfolding endedWalk
 given bus kind start target crossed end right walk =
     rw (reads bus)
@@ -34,7 +34,7 @@ given bus kind start target crossed end right walk =
     ))
 
 pub worked-walks : WorkedWalks
-unfolding zeros u16 u32 headerFor recordOf chassisWith u16At u32At bridgeAt fpbAt portAt recordAt withAri busClaims vectorClaims memoryClaims prefetchableClaims lowClaims highClaims memorySpaceEnabled claimsId claimsAddress inSecondaryRange convertedByBus converted holds withPort lowestTwo passesAt anyBelow isDevicePort functionNumber decided downward byHolders soleHolder deviceOr comeTo upward fromBelow underType0 underType1 next packetOf idTooLarge isStart askedWrongly
+unfolding zeros u16 u32 headerFor recordOf switchWith u16At u32At bridgeAt fpbAt portAt recordAt withAri busClaims vectorClaims memoryClaims prefetchableClaims lowClaims highClaims memorySpaceEnabled claimsId claimsAddress inSecondaryRange convertedByBus converted holds withPort lowestTwo passesAt anyBelow isDevicePort functionNumber decided downward byHolders soleHolder deviceOr comeTo upward fromBelow underType0 underType1 next packetOf idTooLarge isStart askedWrongly
 worked-walks =
     record {
       down = given 4 0 255 0x0300 (0 ∷ 1 ∷ 2 ∷ []) (Device (portNo 2) 0) refl (goes refl (goes refl (goes refl (ends refl))));

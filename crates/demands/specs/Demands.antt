@@ -1,5 +1,7 @@
 -- The three demands, of the very definitions that the public calls promise. Their proofs are in proofs/Demands.antt, under the same
--- names in small letters: demand-1, demand-1-buffer, demand-2, demand-3, overlap-exactly.
+-- names in small letters (demand-1, demand-1-buffer, demand-2, demand-3, overlap-exactly), and for a picture and a patch in
+-- proofs/Trials.antt (trial-1, trial-2, trial-3, trial-overlap): 02, Item 2: "Demands 2 and 3 read "picture and patch" from then on, and
+-- a refused patch counts as one that does not read".
 mod Words
 use Words.*
 
@@ -8,7 +10,8 @@ abbrev pub oneOf : List ℕ → ℕ → Bool
 oneOf [] n = false
 oneOf (x ∷ xs) n = eqb n x || oneOf xs n
 
--- the table's numbers: those of reading, those that the check adds, and the one of a call that asks for what is not there
+-- the table's numbers: those of reading, those that the check adds, the one of a call that asks for what is not there, and those of
+-- a patch
 abbrev pub ofReading : List ℕ
 ofReading = 0 ∷ 1 ∷ 2 ∷ 3 ∷ 4 ∷ 5 ∷ 6 ∷ 7 ∷ 8 ∷ 9 ∷ 10 ∷ []
 
@@ -17,6 +20,9 @@ ofCheck = ofReading ++ (11 ∷ 12 ∷ 13 ∷ 14 ∷ 15 ∷ [])
 
 abbrev pub ofAsking : List ℕ
 ofAsking = ofReading ++ (16 ∷ [])
+
+abbrev pub ofPatch : List ℕ
+ofPatch = 30 ∷ 31 ∷ 32 ∷ []
 
 -- Demand 1: "Any bytes may be lent as a picture, with any ID, address or start. Each call ends with one answer from the paper's table."
 -- (That each call ends, and only reads the picture, is part of every proved contract.)
@@ -27,39 +33,75 @@ pub record Demand1 (s : List ℕ) : Type 0 where
   pub claim : (port : ℕ) (t : Target) → oneOf ofAsking (claimNumber (claimAnswer s port t)) ≡ true
   pub convert : (port : ℕ) (rid : Rid) → oneOf ofAsking (convertNumber (convertAnswer s port rid)) ≡ true
 
+-- the same of any bytes lent as a picture and as a patch
+pub record Trial1 (s patch : List ℕ) : Type 0 where
+  pub reads : oneOf (ofReading ++ ofPatch) (numberOf (readingWith s patch)) ≡ true
+  pub check : oneOf (ofCheck ++ ofPatch) (checkNumber (trialCheck s patch)) ≡ true
+  pub walk : (kind start target : ℕ) (a : WalkAnswer) → TrialGives s patch kind start target a
+      → oneOf (ofAsking ++ ofPatch) (outcomeNumber (a .outcome)) ≡ true
+  pub part : (port : ℕ) (m : Mechanism) → oneOf (ofAsking ++ ofPatch) (partNumber (trialPart s patch port m)) ≡ true
+
 -- and "an answer buffer too short stays untouched": what the controller's calls return, and the buffer after them, is one for each
 -- buffer before them, and 17 and that buffer itself where it is under 40 bytes
+pub record OneBuffer (before : List ℕ) (Call : ℕ → List ℕ → Type 0) : Type 0 where
+  pub short : length before < 40 → (number : ℕ) (after : List ℕ) → Call number after → (number ≡ 17) × (after ≡ before)
+  pub answers : (number : ℕ) × (after : List ℕ) × Call number after
+  pub only : (m n : ℕ) (x y : List ℕ) → Call m x → Call n y → (m ≡ n) × (x ≡ y)
+
+abbrev pub CheckCall : CheckAnswer → List ℕ → ℕ → List ℕ → Type 0
+CheckCall a before number after = (number ≡ returned before (checkNumber a)) × (after ≡ written before (findingBytes (checkFinding a)))
+
 pub record Demand1Buffer (s before : List ℕ) : Type 0 where
-  pub check : length before < 40 → (returned before (checkNumber (checkAnswer s)) ≡ 17) × (written before (findingBytes (checkFinding (checkAnswer s))) ≡ before)
-  pub walk : length before < 40 → (kind start target number : ℕ) (after : List ℕ) → WalkCall s kind start target before number after
-      → (number ≡ 17) × (after ≡ before)
-  pub answers : (kind start target : ℕ) → (number : ℕ) × (after : List ℕ) × WalkCall s kind start target before number after
-  pub only : (kind start target m n : ℕ) (x y : List ℕ) → WalkCall s kind start target before m x → WalkCall s kind start target before n y
-      → (m ≡ n) × (x ≡ y)
+  pub check : OneBuffer before (CheckCall (checkAnswer s) before)
+  pub walk : (kind start target : ℕ) → OneBuffer before (WalkCall s kind start target before)
+  pub trial-check : (patch : List ℕ) → OneBuffer before (CheckCall (trialCheck s patch) before)
+  pub trial-walk : (patch : List ℕ) (kind start target : ℕ) → OneBuffer before (TrialWalkCall s patch kind start target before)
 
 -- a path names these ports in order, its count is the number named, and its unused places are 255
 pub record Names (path : Path) (ports : List PortNo) : Type 0 where
   pub count : path .count ≡ length ports
   pub places : (unused : ℕ) × (path .places ≡ ports ++ replicate unused noPort) × (length (path .places) ≡ 32)
 
+-- the walk has an answer, it has only one, and where that ends, it is where the rules lead, and its path names the ports crossed
+pub record WalksIn (c : Chassis) (Gives : ℕ → ℕ → ℕ → WalkAnswer → Type 0) : Type 0 where
+  pub answers : (kind start target : ℕ) → (a : WalkAnswer) × Gives kind start target a
+  pub only : (kind start target : ℕ) (a b : WalkAnswer) → Gives kind start target a → Gives kind start target b → a ≡ b
+  pub named : (kind start target : ℕ) (a : WalkAnswer) (e : End) → Gives kind start target a → a .outcome ≡ Ended e
+      → (crossed : List PortNo) × Walk c (packetOf kind target) (comeTo start) crossed e × Names (a .path) crossed
+
 -- Demand 2: "For every picture that reads, what each port claims, how a configuration request is converted and where each packet ends
 -- are as the FPB and ARI change notices say .. with every port crossed named in order": each claim and each conversion is the
--- definition's, the walk has an answer, it has only one, and where that ends, its path names the ports crossed
+-- definition's, and so is the walk
 pub record Demand2 (s : List ℕ) : Type 0 where
   pub claims : (h : Header) → reading s ≡ Read h → (port : ℕ) → port < h .count → (t : Target)
       → claimAnswer s port t ≡ Claimed (chassisOf s .claims port t)
   pub converts : (h : Header) → reading s ≡ Read h → (port : ℕ) → port < h .count → (rid : Rid)
       → convertAnswer s port rid ≡ Converted (chassisOf s .conversion port (Id rid))
-  pub answers : (kind start target : ℕ) → (a : WalkAnswer) × WalkGives s kind start target a
-  pub only : (kind start target : ℕ) (a b : WalkAnswer) → WalkGives s kind start target a → WalkGives s kind start target b → a ≡ b
-  pub named : (kind start target : ℕ) (a : WalkAnswer) (e : End) → WalkGives s kind start target a → a .outcome ≡ Ended e
-      → (crossed : List PortNo) × Walk (chassisOf s) (packetOf kind target) (comeTo start) crossed e × Names (a .path) crossed
+  pub walks : WalksIn (chassisOf s) (WalkGives s)
+
+-- the same of a picture and a patch: the picture with the vectors put in reads, its registers are the picture's, and each of its
+-- vectors is the part handed out; demand 2 holds of it, and the walk is the one in it
+pub record Trial2 (s patch : List ℕ) : Type 0 where
+  pub reads : (h : Header) → readingWith s patch ≡ Read h → reading (patched s patch) ≡ Read h
+  pub registers : (h : Header) → readingWith s patch ≡ Read h → (port : ℕ) → port < h .count → portAt (patched s patch) port ≡ portAt s port
+  pub lies : (h : Header) → readingWith s patch ≡ Read h → (port : ℕ) → port < h .count → (m : Mechanism)
+      → trialPart s patch port m ≡ Lies (placeOf s patch port m)
+  pub vectors : (h : Header) → readingWith s patch ≡ Read h → (port : ℕ) → port < h .count → (m : Mechanism)
+      → vectorOf (patched s patch) port m ≡ partAt (placeOf s patch port m) s patch
+  pub picture : Demand2 (patched s patch)
+  pub walks : WalksIn (chassisOf (patched s patch)) (TrialGives s patch)
 
 -- Demand 3: "For any picture that passes the check and any ID or address: from the host and from every device port it comes to the same
 -- end, in at most 32 crossings, and no place on the way has two holders" (but a device port that itself claims the target refuses
 -- its own device)
+abbrev pub PassesFor : CheckAnswer → Chassis → Type 0
+PassesFor a c = checkNumber a ≡ 0 → (t : Target) → InRange t → OneEnd c t
+
 abbrev pub Demand3 : List ℕ → Type 0
-Demand3 s = checkNumber (checkAnswer s) ≡ 0 → (t : Target) → InRange t → OneEnd (chassisOf s) t
+Demand3 s = PassesFor (checkAnswer s) (chassisOf s)
+
+abbrev pub Trial3 : List ℕ → List ℕ → Type 0
+Trial3 s patch = PassesFor (trialCheck s patch) (chassisOf (patched s patch))
 
 -- some ID or address has two sibling holders, or some port claims its own ID
 pub record Overlap (c : Chassis) : Type 0 where
@@ -69,6 +111,12 @@ pub record Overlap (c : Chassis) : Type 0 where
 
 -- Its other half: "a picture that reads fails for overlap exactly if some ID or address has two sibling holders, or some port claims
 -- its own ID; the least such target is shown, with its ports"
-pub record OverlapExactly (s : List ℕ) : Type 0 where
-  pub exactly : (h : Header) → reading s ≡ Read h → ((checkNumber (checkAnswer s) ≡ 11) ⊎ (checkNumber (checkAnswer s) ≡ 12)) ↔ Overlap (chassisOf s)
-  pub shown : (v : Verdict) → checkAnswer s ≡ Judged v → Says (chassisOf s) v
+pub record FailsExactly (got : Reading) (a : CheckAnswer) (c : Chassis) : Type 0 where
+  pub exactly : (h : Header) → got ≡ Read h → ((checkNumber a ≡ 11) ⊎ (checkNumber a ≡ 12)) ↔ Overlap c
+  pub shown : (v : Verdict) → a ≡ Judged v → Says c v
+
+abbrev pub OverlapExactly : List ℕ → Type 0
+OverlapExactly s = FailsExactly (reading s) (checkAnswer s) (chassisOf s)
+
+abbrev pub TrialOverlap : List ℕ → List ℕ → Type 0
+TrialOverlap s patch = FailsExactly (readingWith s patch) (trialCheck s patch) (chassisOf (patched s patch))

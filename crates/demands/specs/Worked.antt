@@ -1,6 +1,6 @@
 -- A worked chassis, so that no demand is empty: a picture of a root port, a switch below it, and a device below each of its two
 -- downstream ports. It passes the check (proofs/Worked.antt), and walks through it are computed (proofs/WorkedWalks.antt); a picture
--- that differs in one port's bus fails (proofs/Doubled.antt).
+-- that differs in one port's bus fails (proofs/Doubled.antt). With patches, so that no trial is empty either: proofs/WorkedTrial.antt.
 use Prim.Native.Nat.{ℕ, zero, suc, _+_, _*_, _/_, _%_}
 use mathlib.Core.List.{List, [], _∷_, _++_}
 use Rattle.chassis.specs.declared.End.{End}
@@ -42,8 +42,8 @@ recordOf kind parent own command secondary subordinate =
     ++ u32 240
 
 -- ports 0 root, 1 upstream, 2 and 3 downstream; the latter has one bus, and no Memory Space Enable
-unfoldable pub chassisWith : ℕ → List ℕ
-chassisWith bus =
+unfoldable pub switchWith : ℕ → List ℕ
+switchWith bus =
     headerFor 4
     ++ recordOf 0 255 0x0008 2 1 4
     ++ recordOf 1 0 0x0100 2 2 4
@@ -51,11 +51,28 @@ chassisWith bus =
     ++ recordOf 2 1 0x0208 0 bus bus
 
 abbrev pub worked : List ℕ
-worked = chassisWith 4
+worked = switchWith 4
 
 -- both downstream ports have bus 3
 abbrev pub doubled : List ℕ
-doubled = chassisWith 3
+doubled = switchWith 3
+
+-- the patch of no ports
+abbrev pub nothing : List ℕ
+nothing = u32 0 ++ u32 8
+
+-- one root port, of ID 0008h, without buses and windows; RID decoding is supported, with 256 entries, and enabled, with 8 IDs an entry
+-- from 0 on; each entry is clear
+unfoldable pub onePort : List ℕ
+onePort =
+    (u16 1 ++ u16 1 ++ u32 104 ++ u32 16 ++ u32 72)
+    ++ ((0 ∷ 255 ∷ []) ++ u16 0x0008 ++ zeros 4 ++ u16 0xFFF0 ++ u16 0 ++ u16 0xFFF0 ++ zeros 14)
+    ++ (u32 1 ++ u32 1 ++ zeros 16 ++ u32 72)
+    ++ zeros 32
+
+-- the patch of that port that sets entry 1, IDs 0008h to 000Fh
+unfoldable pub ownEntry : List ℕ
+ownEntry = u32 1 ++ u32 48 ++ u32 0 ++ u32 16 ++ (2 ∷ zeros 31)
 
 -- the walk's answer by its end and the ports crossed, in order
 abbrev pub portNos : List ℕ → List PortNo

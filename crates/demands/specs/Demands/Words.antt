@@ -19,9 +19,18 @@ pub use Rattle.chassis.specs.OneEnd.{InRange, OneEnd}
 pub use Rattle.chassis.specs.Walk.{Walk, comeTo}
 pub use Rattle.paths.specs.declared.Path.{Path}
 pub use Rattle.picture.specs.declared.Header.{Header}
+pub use Rattle.registers.specs.declared.Mechanism.{Mechanism}
+pub use Rattle.registers.specs.Record.{portAt}
+pub use Rattle.picture.specs.declared.Reading.{Reading}
 pub use Rattle.picture.specs.declared.Reading.the-variants.{Read}
+pub use Rattle.picture.specs.Layout.{vectorOf}
 pub use Rattle.picture.specs.Reading.{reading, numberOf}
+pub use Rattle.patches.specs.Parts.{placeOf, partAt}
+pub use Rattle.patches.specs.Patched.{patched}
+pub use Rattle.patches.specs.Reading.{readingWith}
 pub use Rattle.claims.specs.Claims.{chassisOf}
+pub use Rattle.judge.specs.declared.CheckAnswer.{CheckAnswer}
+pub use Rattle.judge.specs.declared.PartAnswer.the-variants.{Lies}
 pub use Rattle.judge.specs.declared.CheckAnswer.the-variants.{Judged}
 pub use Rattle.judge.specs.declared.ClaimAnswer.the-variants.{Claimed}
 pub use Rattle.judge.specs.declared.ConvertAnswer.the-variants.{Converted}
@@ -31,6 +40,7 @@ pub use Rattle.judge.specs.Checking.{checkAnswer, checkFinding, checkNumber}
 pub use Rattle.judge.specs.Claiming.{claimAnswer, claimNumber}
 pub use Rattle.judge.specs.Converting.{convertAnswer, convertNumber}
 pub use Rattle.judge.specs.Ends.{outcomeNumber}
+pub use Rattle.judge.specs.Trying.{trialCheck, TrialGives, trialPart, partNumber}
 pub use Rattle.judge.specs.Walking.{packetOf, WalkGives}
-pub use Rattle.fiswalend.specs.Calls.{returned, written, WalkCall}
+pub use Rattle.fiswalend.specs.Calls.{returned, written, WalkCall, TrialWalkCall}
 pub use Rattle.fiswalend.specs.Found.{findingBytes}
