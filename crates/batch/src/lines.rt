@@ -7,7 +7,7 @@ use judge::ClaimAnswer;
 use judge::ConvertAnswer;
 use texts::Text;
 
-fn print_line(text: Text) {
+pub fn print_line(text: Text) {
     text.with(b"\n").print();
 }
 
@@ -21,7 +21,7 @@ fn with_byte(text: Text, b: u8) -> Text {
 }
 
 // The number that a call returned, and the 40 bytes.
-fn print_call(number: u32, bytes: &[u8; ANSWER_BYTES]) {
+pub fn print_call(number: u32, bytes: &[u8; ANSWER_BYTES]) {
     let mut text = Text::new().with_decimal(number as u64).with(b" ");
     let mut i = 0;
     while i < ANSWER_BYTES {
@@ -43,7 +43,7 @@ pub fn print_walk(picture: &[u8], kind: u32, start: u32, target: u64) {
     print_call(number, &bytes);
 }
 
-fn print_number(number: u8) {
+pub fn print_number(number: u8) {
     print_line(Text::new().with_decimal(number as u64));
 }
 

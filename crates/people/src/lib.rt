@@ -4,6 +4,7 @@ mod drawing;
 mod fixed;
 mod lines;
 mod neighbours;
+mod patching;
 mod ports;
 mod sentences;
 mod settings;
@@ -11,3 +12,4 @@ mod words;
 
 pub use drawing::print_tree;
 pub use sentences::print_sentence;
+pub use sentences::print_trial_sentence;

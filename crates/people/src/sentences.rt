@@ -1,7 +1,8 @@
-// The sentence of a number: its fixed text, then the particulars of the picture.
+// The sentence of a number: its fixed text, then the particulars of the picture and the patch.
 use crate::causes::say_wrong_settings;
 use crate::causes::say_wrong_starts;
 use crate::fixed::say_fixed;
+use crate::patching::say_of_patch;
 use crate::ports::say_number_of;
 use crate::ports::say_port;
 use crate::ports::say_tree_breaker;
@@ -10,6 +11,7 @@ use crate::words::say_bytes;
 use crate::words::say_number;
 use crate::words::say_target;
 use chassis::Conversion;
+use chassis::Finding;
 use chassis::Holders;
 use chassis::Shown;
 use ids::PortNo;
@@ -76,11 +78,11 @@ fn say_misplaced(s: &[u8], p: PortNo) {
 }
 
 // What the parent makes of the own ID of a port that it loses.
-fn say_lost(s: &[u8], p: PortNo) {
+fn say_lost<'a>(s: &'a [u8], patch: &'a [u8], p: PortNo) {
     let parent = parent_at(s, p);
     say(b", and ");
     say_number_of(parent);
-    match claims::conversion(s, parent, Target::Id(own_id_at(s, p))) {
+    match claims::conversion(s, patch, parent, Target::Id(own_id_at(s, p))) {
         Conversion::Type1 => say(b" passes configuration requests for it on as Type 1"),
         Conversion::Unsupported => say(
             b" answers configuration requests for it with Unsupported Request",
@@ -90,7 +92,7 @@ fn say_lost(s: &[u8], p: PortNo) {
 }
 
 // The particulars of a number that names one port and no target.
-fn say_of_port(s: &[u8], number: u8, p: PortNo) {
+fn say_of_port<'a>(s: &'a [u8], patch: &'a [u8], number: u8, p: PortNo) {
     if number == 6 {
         say_tree_breaker(s, p);
         return;
@@ -103,7 +105,7 @@ fn say_of_port(s: &[u8], number: u8, p: PortNo) {
     match number {
         8 => say_wrong_settings(s, p),
         9 => say_wrong_starts(s, p),
-        15 => say_lost(s, p),
+        15 => say_lost(s, patch, p),
         _ => {}
     }
 }
@@ -133,14 +135,23 @@ fn say_pair(s: &[u8], t: Target, p: PortNo, q: PortNo) {
     say_port(s, q);
 }
 
-// The particulars of a number that names ports, with the target where it shows one.
-fn say_named(s: &[u8], number: u8, shown: Shown, ports: Holders) {
+// The particulars of a number that names no port: one of a patch is 30 or more.
+fn say_unnamed(s: &[u8], patch: &[u8], number: u8) {
+    if 30 <= number {
+        say_of_patch(s, patch, number);
+        return;
+    }
+    say_of_picture(s, number);
+}
+
+// The particulars of a number, with the target where it shows one.
+fn say_particulars<'a>(s: &'a [u8], patch: &'a [u8], number: u8, shown: Shown, ports: Holders) {
     match ports {
-        Holders::Nobody => say_of_picture(s, number),
+        Holders::Nobody => say_unnamed(s, patch, number),
         Holders::Only(p) => {
             say(b": ");
             match shown {
-                Shown::NoTarget => say_of_port(s, number, p),
+                Shown::NoTarget => say_of_port(s, patch, number, p),
                 Shown::Least(t) => say_stray(s, t, p),
             }
         }
@@ -154,13 +165,22 @@ fn say_named(s: &[u8], number: u8, shown: Shown, ports: Holders) {
     }
 }
 
-// The sentence for what the check says of a picture, on a line of its own.
-pub fn print_sentence(s: &[u8]) {
-    let f = judge::check_finding(judge::check(s));
+// The sentence for a finding, on a line of its own.
+fn print_finding<'a>(s: &'a [u8], patch: &'a [u8], f: Finding) {
     let number = f.number;
     let target = f.target;
     let ports = f.ports;
     say_fixed(number);
-    say_named(s, number, target, ports);
+    say_particulars(s, patch, number, target, ports);
     say(b".\n");
+}
+
+// The sentence for what the check says of a picture.
+pub fn print_sentence(s: &[u8]) {
+    print_finding(s, patches::none(s), judge::check_finding(judge::check(s)));
+}
+
+// The sentence for what the trial check says of a picture and a patch.
+pub fn print_trial_sentence<'a>(s: &'a [u8], patch: &'a [u8]) {
+    print_finding(s, patch, judge::check_finding(judge::trial_check(s, patch)));
 }

@@ -9,11 +9,16 @@ use Rattle.judge.specs.declared.Outcome.the-variants.{Refused, Ended}
 use Rattle.judge.specs.declared.WalkAnswer.{WalkAnswer}
 use Rattle.judge.specs.Checking.{checkAnswer, checkFinding}
 use Rattle.judge.specs.Refusals.{refusalFinding}
+use Rattle.judge.specs.Trying.{trialCheck}
 use Rattle.texts.specs.Lines.{refusedLine, reportLines, walkLines}
 
 -- the count of ports and what the check says, with this byte between two lines
 abbrev pub reportOf : List ℕ → ℕ → List ℕ
 reportOf s end = reportLines (countOf s) (checkFinding (checkAnswer s)) end
+
+-- the same of a picture and a patch: "prints as `report` does"
+abbrev pub trialOf : List ℕ → List ℕ → ℕ → List ℕ
+trialOf s patch end = reportLines (countOf s) (checkFinding (trialCheck s patch)) end
 
 -- a refusal, or the end and the ports crossed
 abbrev pub outcomeLines : Bool → Outcome → Path → List ℕ

@@ -1,4 +1,4 @@
-use Rattle.judge.proofs.Walks.{count-read, count-few}
+use Rattle.picture.proofs.WhatReads.{count-read, count-few}
 use native.Mathlib.Omega.{arith}
 use mathlib.Core.Path.{sym, _∙_}
 use borrow.Author.Needs.{needs}

@@ -1,14 +1,14 @@
 use borrow.Author.Needs.{needs}
 use mathlib.Core.Path.{sym}
 use lib.Seq.{length-take-le}
-use Rattle.batch.proofs.take_picture.Statement.{statement}
-use Rattle.batch.proofs.take_picture.Tie as tie
+use Rattle.batch.proofs.take_bytes.Statement.{statement}
+use Rattle.batch.proofs.take_bytes.Tie as tie
 
 slice-aggregate-read-full : tie.Need-slice-aggregate-read-full
 slice-aggregate-read-full c = sym (length-take-le _ _ (c .before .if1 .taken))
 
-pub take-picture-spec : {M : Type 1} → statement M
-take-picture-spec =
+pub take-bytes-spec : {M : Type 1} → statement M
+take-bytes-spec =
     tie.close
     (tie.spec
     (λ c κs. search needs)
