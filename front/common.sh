@@ -125,25 +125,56 @@ become() {
     exec ${emulator:+"$emulator"} "$base/ld-linux-x86-64.so.2" --library-path "$base" "$programs/$name" "$@"
 }
 
-# ask NAME ARGS..: what the program says of the picture, in `answer`; one byte more than a picture may have is read. Both that
-# read it and the program end with this shell.
+# ask NAME ARGS..: has the program built, and consults it
 ask() {
-    local reader program signal
+    ready "$1"
+    consult "$@"
+}
+
+# ready NAME: has the program built, and opens descriptor 8, on which a part of a command says that it failed, by a word: bash can
+# lose the status of a process substitution where there are several, one in a thousand
+faults=''
+ready() {
     has_program "$1"
-    exec 4< <(exec head -c 65537 <&3 2>/dev/null)
+    exec 8<> <(:)
+}
+
+# alongside COMMAND..: runs it on this process's standard input, gives its status, and ends it where this process is ended
+alongside() {
+    trap 'kill "${!-}" 2>/dev/null; exit 1' TERM
+    "$@" <&0 &
+    wait $!
+}
+
+# read_part WORD BYTES: prints as many bytes of standard input, or as there are; the fault WORD is that it cannot be read, for which
+# `head' has the status 1
+read_part() {
+    local status=0
+    alongside head -c "$2" 2>/dev/null || status=$?
+    [ "$status" != 1 ] || echo "$1" >&8
+}
+
+# consult NAME ARGS..: what the program says of the picture, in `answer`, and what has failed, in `faults`; one byte more than a
+# picture may have is read. What reads it, the program, and the `helpers` that a command has started end with this shell.
+helpers=''
+consult() {
+    local reader program signal
+    exec 4< <(read_part picture 65537 <&3)
     reader=$!
-    exec 5< <(become "$@" <&4 3<&- 4<&-)
+    exec 5< <(alongside become "$@" <&4 3<&- 4<&- || echo program >&8)
     program=$!
     exec 3<&- 4<&-
     for signal in INT TERM HUP; do
         # shellcheck disable=SC2064 # the processes are known now
-        trap "trap - $signal; kill $reader $program 2>/dev/null; kill -$signal \$\$" "$signal"
+        trap "trap - $signal; kill $reader $program $helpers 2>/dev/null; kill -$signal \$\$" "$signal"
     done
     IFS= read -r -d '' answer <&5
     answer=${answer%$'\n'}
-    wait "$program" || no_answer "$1"
-    wait "$reader" || unreadable "cannot be read"
     trap - INT TERM HUP
+    echo . >&8
+    IFS= read -r -d . faults <&8
+    [[ $faults != *program* ]] || no_answer "$1"
+    [[ $faults != *picture* ]] || unreadable "cannot be read"
 }
 
 # no_answer NAME: ends the command where its program has not said what it must

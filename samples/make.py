@@ -1,5 +1,5 @@
 #!/usr/bin/env python3
-"""Writes the sample pictures beside it. The pictures are stored; this says what is in each."""
+"""Writes the sample pictures and patches beside it. They are stored; this says what is in each."""
 import os
 import struct
 
@@ -59,6 +59,26 @@ def picture(ports, edition=1):
         vectors += port.vector_bytes()
     total = at + len(vectors)
     return struct.pack('<HHIII', edition, len(ports), total, 16, at) + records + vectors
+
+
+def patch(*ports):
+    """New vectors for some ports: pairs of a number and a Port of the same vector sizes, whose vectors alone count."""
+    at = 8 + 8 * len(ports)
+    rows, vectors = b'', b''
+    for number, port in ports:
+        rows += struct.pack('<II', number, at + len(vectors))
+        vectors += port.vector_bytes()
+    return struct.pack('<II', len(ports), at + len(vectors)) + rows + vectors
+
+
+def card(low=(), high=()):
+    """The port of a card that waits in its slot: vectors of all three kinds, those for memory from E0000000h and from 4 GiB on."""
+    return Port(DOWNSTREAM, 1, 0x0208, buses=(4, 4)).vector(RID, 0, 0, 0x80, []).vector(LOW, 0, 0, 0xE00, low).vector(HIGH, 0, 0, 16, high)
+
+
+def level_card(low):
+    """A port with a MEM Low vector from E0000000h on."""
+    return Port(DOWNSTREAM, 1, 0x0200, buses=(3, 3)).vector(LOW, 0, 0, 0xE00, low)
 
 
 def chain(length):
@@ -146,10 +166,41 @@ SAMPLES = {
         Port(ROOT, 255, 8, buses=(1, 3)),
         Port(UPSTREAM, 0, 0x0110, buses=(2, 3)),
     ]),
+    # a card waits in the slot of port 3: its vectors are there, and nothing is set in them yet
+    'waiting-card': picture([
+        Port(ROOT, 255, 0x0008, buses=(1, 4), memory=(0xE000, 0xEFF0), prefetchable=(0x0001, 0xFFF1), upper=(1, 1)),
+        Port(UPSTREAM, 0, 0x0100, buses=(2, 4), memory=(0xE000, 0xEFF0), prefetchable=(0x0001, 0xFFF1), upper=(1, 1)),
+        level_card([1, 5]),
+        card(),
+    ]),
     'eight-before-nine': picture([Port(ROOT, 255, 8).vector(LOW, 0, 4, 8, [0]), Port(ROOT, 255, 16, memory=(0xE001, 0xE000))]),
 }
 
+# patches by the picture that they are for, and what they do
+WAITING = patch((2, level_card([1])), (3, card([9], [0, 1])))
+PATCHES = {
+    'waiting-card.fits': patch((3, card([9], [0, 1]))),
+    # a granule that port 2 has
+    'waiting-card.collides': patch((3, card([5, 9]))),
+    # port 2 gives the granule up in the same trial
+    'waiting-card.moves': patch((2, level_card([1])), (3, card([5]))),
+    'waiting-card.strays': patch((3, card([9], [16]))),
+    'waiting-card.nothing': patch(),
+    # port 3 without the granule that both have
+    'shared-granule.mends': patch((3, level_card([9]))),
+    # a patch over a picture that does not read
+    'short.nothing': patch(),
+    'waiting-card.no-bytes': b'',
+    'waiting-card.cut-short': WAITING[:-1],
+    'waiting-card.twice': patch((3, card()), (3, card())),
+    'waiting-card.falling': patch((3, card()), (2, level_card([1]))),
+    'waiting-card.beyond': patch((4, card())),
+    'waiting-card.gap': changed(WAITING, 4, struct.pack('<I', len(WAITING) + 1)) + bytes(1),
+    'waiting-card.wrong-offset': changed(WAITING, 20, struct.pack('<I', 24)),
+}
+
 if __name__ == '__main__':
-    for name, data in SAMPLES.items():
-        with open(os.path.join(HERE, name + '.picture'), 'wb') as f:
-            f.write(data)
+    for kind, samples in (('picture', SAMPLES), ('patch', PATCHES)):
+        for name, data in samples.items():
+            with open(os.path.join(HERE, f'{name}.{kind}'), 'wb') as f:
+                f.write(data)
