@@ -1,8 +1,10 @@
 #!/usr/bin/env bash
 # differential.sh [SEED [PICTURES]]: the proved judge against the second program (second/README.md), call by call: report,
-# check and walk (40 bytes each), claim and conversion. Runs the second program's own tests, then the hand-written cases, all
-# edges of reading and PICTURES random pictures of seed SEED; then what `fpb report --explain' and `fpb tree' print of 150
-# pictures, or of 15 in a hundred of PICTURES if that is more. A longer run with another seed: tests/differential.sh 7 50000
+# check and walk (40 bytes each), claim and conversion; report, check and walk of trials, and where their vectors lie. Runs the
+# second program's own tests, then the hand-written cases, all edges of reading and PICTURES random pictures of seed SEED, with
+# good and damaged patches; then what `fpb report --explain' and `fpb tree' print of 150 pictures, or of 15 in a hundred of
+# PICTURES if that is more, and what `fpb trial' and `fpb trial --explain' print of 60 pictures with a patch each, or of 6 in a
+# hundred. A longer run with another seed: tests/differential.sh 7 50000
 # A difference prints the picture's file, the call and both answers, or a diff of both texts.
 # Last line: N passed, M failed, counting answers, texts and tests.
 set -u
@@ -32,7 +34,7 @@ rm -rf "$work"
 mkdir -p "$work"
 (cd second && cargo build --release --offline --quiet) || give_up "the second program does not build"
 second=$PWD/second/target/release/second
-for program in batch explain tree; do
+for program in batch explain tree trial; do
     build "$program" || give_up "the $program program is not proved"
 done
 echo "built at $SECONDS s"
@@ -55,7 +57,7 @@ compare() {
     if ! (cd "$work" && "$second" compare "$name.expected" "$name.actual" "$name.batch") >"$work/$name.compared"; then
         [ "$other" -gt 0 ] || failed=$((failed + 1))
         mkdir -p "$work/$name"
-        mv "$work"/difference-*.picture "$work/$name/" 2>/dev/null
+        mv "$work"/difference-* "$work/$name/" 2>/dev/null
         echo "in $work/$name:"
         cat "$work/$name.compared"
     elif [ "$same" -eq 0 ]; then
@@ -67,18 +69,18 @@ compare() {
     echo "$name: $same answers agree, $other differ (at $SECONDS s)"
 }
 
-# compare_text PICTURE COMMAND PROGRAM WORDS..: what a program prints of a picture, against the second program's COMMAND
+# compare_text PICTURE PROGRAM [PATCH]: what a program prints of a picture, against the second program's command of that name
 compare_text() {
-    local picture=$1 command=$2
-    shift 2
-    "$second" "$command" <"$picture" >"$work/text.expected" &
+    local picture=$1
+    shift
+    "$second" "$@" <"$picture" >"$work/text.expected" &
     run_built "$@" <"$picture" >"$work/text.actual" || echo "$1: status $?"
     wait $! || echo "second: status $?"
     if [ -s "$work/text.expected" ] && cmp -s "$work/text.expected" "$work/text.actual"; then
         passed=$((passed + 1))
     else
         failed=$((failed + 1))
-        echo "$picture: $* (actual, +) differs from second $command (expected, -)"
+        echo "$picture: $* (actual, +) differs from second $* (expected, -)"
         diff -u "$work/text.expected" "$work/text.actual" | tail -n +3
     fi
 }
@@ -88,16 +90,28 @@ compare_texts() {
     local before=$failed n
     "$second" pictures "$1" "$2" "$work/pictures" || give_up "no pictures of seed $1"
     for ((n = 1; n <= $2; n++)); do
-        compare_text "$work/pictures/$n.picture" explain explain
-        compare_text "$work/pictures/$n.picture" tree tree
+        compare_text "$work/pictures/$n.picture" explain
+        compare_text "$work/pictures/$n.picture" tree
     done
     echo "explain and tree: $((2 * $2 - failed + before)) texts agree, $((failed - before)) differ (at $SECONDS s)"
+}
+
+# compare_trials SEED COUNT: both texts of so many pictures with a patch each
+compare_trials() {
+    local before=$failed n
+    "$second" patches "$1" "$2" "$work/patches" || give_up "no patches of seed $1"
+    for ((n = 1; n <= $2; n++)); do
+        compare_text "$work/patches/$n.picture" trial "$work/patches/$n.patch"
+        compare_text "$work/patches/$n.picture" explain "$work/patches/$n.patch"
+    done
+    echo "trial and explain: $((2 * $2 - failed + before)) texts agree, $((failed - before)) differ (at $SECONDS s)"
 }
 
 # the hand-written cases, and a picture longer than the batch program keeps
 { "$second" batch; printf 'P\100\0\1\0'; head -c 65600 /dev/zero; printf RC; } >"$work/hand-written.batch"
 compare hand-written
 texts=$((pictures * 15 / 100 > 150 ? pictures * 15 / 100 : 150))
+trials=$((pictures * 6 / 100 > 60 ? pictures * 6 / 100 : 60))
 first_seed=$seed
 while [ "$pictures" -gt 0 ]; do
     now=$((pictures < chunk ? pictures : chunk))
@@ -106,5 +120,6 @@ while [ "$pictures" -gt 0 ]; do
     seed=$((seed + 1)) pictures=$((pictures - now))
 done
 compare_texts "$first_seed" "$texts"
+compare_trials "$first_seed" "$trials"
 echo "$passed passed, $failed failed"
 [ "$failed" -eq 0 ]

@@ -7,7 +7,7 @@ cd "$(dirname "$(readlink -f "$0")")/.." || exit 2
 root=$PWD
 self=tests/front.sh
 . tools/build.sh
-for program in report explain route tree; do build "$program" || { echo "0 passed, 1 failed"; exit 1; }; done
+for program in report explain route tree trial; do build "$program" || { echo "0 passed, 1 failed"; exit 1; }; done
 work=$(mktemp -d)
 chmod 755 "$work"
 trap 'rm -rf "$work"' EXIT
@@ -46,6 +46,7 @@ one=samples/one-port.picture shared=samples/shared-granule.picture
 shared_line='refused 12 addr 00000000e0500000 ports 2 3/'
 report_usage='/usage: fpb report \[--explain\] \[FILE\]/'
 route_usage='/usage: fpb route KIND START TARGET \[FILE\]/'
+trial_usage='/usage: fpb trial \[--explain\] PATCH \[FILE\]/'
 
 input_and_output() {
     expect 0 'ports 1/clear/' '' ./fpb report "$one"
@@ -84,7 +85,7 @@ usage() {
     expect 2 '' "fpb report: one FILE is enough, and \`$shared' is another$report_usage" ./fpb report "$one" "$shared"
     expect 2 '' "fpb report: FILE is an empty word$report_usage" ./fpb report ""
     expect 2 '' "fpb help: there is no command \`me'/usage: fpb help \[COMMAND\]/" ./fpb help me
-    for command in report route tree help; do
+    for command in report route tree trial help; do
         expect 0 "usage: fpb $command*Status*" '' ./fpb help "$command"
         expect 0 "*  fpb $command *" '' ./fpb help
         expect 0 "usage: fpb $command*" '' ./fpb "$command" --help
@@ -92,6 +93,36 @@ usage() {
     done
     expect 0 '*  fpb report *' '' ./fpb --help
     expect 0 '*  fpb report *' '' ./fpb -h
+}
+
+# of a picture and a patch, either of which may be standard input, but not both
+trials() {
+    local card=samples/waiting-card.picture fits=samples/waiting-card.fits.patch collides=samples/waiting-card.collides.patch
+    expect 0 'ports 4/clear/' '' ./fpb trial "$fits" "$card"
+    expect 1 "$shared_line" '' ./fpb trial "$collides" "$card"
+    expect 1 "$shared_line" '' from "$card" ./fpb trial "$collides"
+    expect 1 "$shared_line" '' from "$card" ./fpb trial -- "$collides" -
+    expect 1 "$shared_line" '' from "$collides" ./fpb trial - "$card"
+    expect 1 "$shared_line" '' in_folder samples ../fpb trial waiting-card.collides.patch waiting-card.picture
+    expect 1 "$shared_line" '' ./fpb trial <(cat "$collides") <(cat "$card")
+    expect 0 'ports 4/clear/Nothing was found wrong: *./' '' ./fpb trial --explain "$fits" "$card"
+    expect 1 "${shared_line}An address has two holders *./" '' from "$collides" ./fpb trial --explain - "$card"
+    expect 2 '' "fpb trial: there is no option \`--explian'$trial_usage" ./fpb trial --explian "$fits" "$card"
+    expect 1 'refused 30/' '' ./fpb trial /dev/null "$card"
+    expect 1 'refused 30/' '' ./fpb trial /dev/zero "$card"
+    expect 1 'refused 1/' '' ./fpb trial "$fits" /dev/null
+    expect 2 '' "fpb trial: PATCH is missing$trial_usage" ./fpb trial
+    expect 2 '' "fpb trial: PATCH is an empty word$trial_usage" ./fpb trial '' "$card"
+    expect 2 '' "fpb trial: one FILE is enough, and \`$one' is another$trial_usage" ./fpb trial "$fits" "$card" "$one"
+    expect 2 '' "fpb trial: picture and patch cannot both be standard input: name a FILE$trial_usage" ./fpb trial -
+    expect 2 '' "fpb trial: picture and patch cannot both be standard input: name a FILE$trial_usage" ./fpb trial - -
+    expect 2 '' 'fpb trial: no.patch cannot be opened: No such file or directory/' ./fpb trial no.patch "$card"
+    expect 2 '' 'fpb trial: no.picture cannot be opened: No such file or directory/' ./fpb trial "$fits" no.picture
+    expect 2 '' 'fpb trial: samples is a directory, and not a patch/' ./fpb trial samples "$card"
+    expect 2 '' 'fpb trial: standard input is closed/' closed_input ./fpb trial - "$card"
+    expect 2 '' 'fpb trial: standard input is closed/' closed_input ./fpb trial "$fits"
+    expect 2 '' 'fpb trial: /proc/self/mem cannot be read/' ./fpb trial /proc/self/mem "$card"
+    expect 2 '' 'fpb trial: standard output cannot be written/' full_output ./fpb trial "$fits" "$card"
 }
 
 # that the version stands in every place that has one
@@ -302,20 +333,21 @@ ended() {
     expect 0 'ports 1/clear/' '*proved: report/' copy report "$one"
 }
 
-# children PID: the processes that it has started; lives PID: whether a process still runs
-children() { awk -v parent="$1" '$4 == parent { printf "%s ", $1 }' /proc/[0-9]*/stat 2>/dev/null; }
+# children PID..: the processes that these have started; lives PID: whether a process still runs
+children() { awk -v parents=" $* " 'index(parents, " " $4 " ") { printf "%s ", $1 }' /proc/[0-9]*/stat 2>/dev/null; }
 lives() { [ -r "/proc/$1/stat" ] && [ "$(awk '{ print $3 }' "/proc/$1/stat")" != Z ]; }
 
-# that what waits for the picture ends with fpb, too
+# that what waits for the picture ends with fpb, too: two processes that fpb has started, and one for each of them
 waiting() {
-    local pid try left status
+    local pid try left first status
     mkfifo "$work/fifo"
     exec 8<>"$work/fifo"
     ./fpb report "$work/fifo" >/dev/null 2>&1 8<&- &
     pid=$!
     for ((try = 0; try < 300; try++)); do
-        read -ra left <<<"$(children "$pid")"
-        [ ${#left[@]} -lt 2 ] || break
+        first=$(children "$pid")
+        read -ra left <<<"$first $(children "$first")"
+        [ ${#left[@]} -lt 4 ] || break
         sleep 0.1
     done
     kill -TERM "$pid"
@@ -323,7 +355,7 @@ waiting() {
     status=$?
     counts "$([ "$status" -eq 143 ] || echo "fpb ended by TERM has the status $status")"
     sleep 0.5
-    counts "$([ ${#left[@]} -eq 2 ] || echo "fpb has ${#left[@]} children where it waits for a picture, and not 2")"
+    counts "$([ ${#left[@]} -eq 4 ] || echo "fpb has started ${#left[@]} processes where it waits for a picture, and not 4")"
     counts "$(for pid in "${left[@]}"; do lives "$pid" && echo "process $pid goes on after fpb was ended"; done)"
     exec 8<&-
 }
@@ -339,6 +371,8 @@ half_answers() {
         expect 2 '' 'fpb report: the program explain did not answer/' "$1" report --explain "$one"
         expect 2 '' 'fpb route: the program route did not answer/' "$1" route id host 0300 "$one"
         expect 2 '' 'fpb tree: the program tree did not answer/' "$1" tree "$one"
+        expect 2 '' 'fpb trial: the program trial did not answer/' "$1" trial samples/waiting-card.fits.patch "$one"
+        expect 2 '' 'fpb trial: the program explain did not answer/' "$1" trial --explain samples/waiting-card.fits.patch "$one"
     done
     rm "$2"
 }
@@ -363,6 +397,7 @@ installed() {
     expect 1 "$shared_line*./" '' without_rt "$bin" report --explain "$shared"
     expect 0 'end device port 2/path 0 1 2/' '' without_rt "$work/installed" route id host 03:00.0 samples/switch.picture
     expect 0 '-*' '' in_folder / "$work/installed" tree "$root/$one"
+    expect 0 'ports 4/clear/' '' in_folder samples without_rt "$bin" trial waiting-card.fits.patch waiting-card.picture
     expect 0 '*fpb report*' '' without_rt "$bin" help
     expect 0 "$(./fpb --version)/" '' without_rt "$bin" --version
     expect 0 "$(./fpb --version | sed 's/fpb/Version:/')/" '' grep '^Version: ' "$work/stage/moved/lib/pkgconfig/fiswalend.pc"
@@ -389,6 +424,7 @@ input_and_output
 usage
 versions
 targets
+trials
 elsewhere
 explained
 man_examples

@@ -1,6 +1,7 @@
 #!/usr/bin/env bash
 # Every sample by `fpb report', `fpb report --explain' and `fpb tree': what is printed is in NAME.report, NAME.explain and, for a
-# picture that reads, NAME.tree; the sentence begins as tests/number-texts has it. Last line: N passed, M failed.
+# picture that reads, NAME.tree; the sentence begins as tests/number-texts has it. Every patch by `fpb trial' over the picture that
+# its name begins with: what is printed is in NAME.trial, and with `--explain' in NAME.explain. Last line: N passed, M failed.
 set -u
 cd "$(dirname "$(readlink -f "$0")")/.." || exit 2
 passed=0 failed=0
@@ -41,6 +42,15 @@ for picture in samples/*.picture; do
     else
         prints 1 "$name.report" ./fpb tree "$picture"
     fi
+done
+for patch in samples/*.patch; do
+    name=${patch%.patch} picture=${patch##*/} status=1
+    picture=samples/${picture%%.*}.picture
+    read -r word number _ <"$name.trial"
+    [ "$word" = refused ] || { status=0 number=0; }
+    prints "$status" "$name.trial" ./fpb trial "$patch" "$picture"
+    prints "$status" "$name.explain" ./fpb trial --explain "$patch" "$picture"
+    begins "$name.explain" "$number"
 done
 echo "$passed passed, $failed failed"
 [ "$failed" -eq 0 ]

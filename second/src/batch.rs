@@ -1,53 +1,76 @@
 //! The batch protocol: a stream of little-endian records, each beginning with one letter, and one
-//! answer line for each record but `P`.
+//! answer line for each record but `P` and `Q`.
 
+use std::cell::OnceCell;
 use std::fmt;
 
 use crate::claims::Conversion;
 use crate::judge::Judge;
+use crate::patch::{part, Part, Slice};
 use crate::picture::Refusal;
 
-/// What one record of a batch asks.
+/// What one record of a batch lends or asks.
 #[derive(Clone, Debug, PartialEq, Eq)]
 pub enum Record {
     Picture(Vec<u8>),
+    Patch(Vec<u8>),
     Report,
     Check,
     Walk { kind: u32, start: u32, target: u64 },
     Claim { port: u32, target_kind: u32, target: u64 },
     Conversion { port: u32, id: u64 },
+    TrialReport,
+    TrialCheck,
+    TrialWalk { kind: u32, start: u32, target: u64 },
+    Part { port: u32, mechanism: u32 },
 }
 
 impl Record {
+    /// Does the record ask something, so that a line answers it?
+    pub fn is_call(&self) -> bool {
+        !matches!(self, Record::Picture(_) | Record::Patch(_))
+    }
+
+    /// Does it ask about picture and patch?
+    pub fn is_of_trial(&self) -> bool {
+        use Record::{Part, TrialCheck, TrialReport, TrialWalk};
+        matches!(self, TrialReport | TrialCheck | TrialWalk { .. } | Part { .. })
+    }
+
     /// Appends the record to a batch.
     pub fn write(&self, out: &mut Vec<u8>) {
         match self {
-            Record::Picture(bytes) => {
-                out.push(b'P');
-                out.extend((bytes.len() as u32).to_le_bytes());
-                out.extend(bytes);
-            }
-            Record::Report => out.push(b'R'),
-            Record::Check => out.push(b'C'),
-            Record::Walk { kind, start, target } => {
-                out.push(b'W');
-                out.extend(kind.to_le_bytes());
-                out.extend(start.to_le_bytes());
-                out.extend(target.to_le_bytes());
-            }
+            Record::Picture(bytes) => write_lent(out, b'P', bytes),
+            Record::Patch(bytes) => write_lent(out, b'Q', bytes),
+            Record::Report => write_call(out, b'R', &[], None),
+            Record::Check => write_call(out, b'C', &[], None),
+            Record::Walk { kind, start, target } => write_call(out, b'W', &[*kind, *start], Some(*target)),
             Record::Claim { port, target_kind, target } => {
-                out.push(b'L');
-                out.extend(port.to_le_bytes());
-                out.extend(target_kind.to_le_bytes());
-                out.extend(target.to_le_bytes());
+                write_call(out, b'L', &[*port, *target_kind], Some(*target));
             }
-            Record::Conversion { port, id } => {
-                out.push(b'V');
-                out.extend(port.to_le_bytes());
-                out.extend(id.to_le_bytes());
+            Record::Conversion { port, id } => write_call(out, b'V', &[*port], Some(*id)),
+            Record::TrialReport => write_call(out, b'X', &[], None),
+            Record::TrialCheck => write_call(out, b'T', &[], None),
+            Record::TrialWalk { kind, start, target } => {
+                write_call(out, b'U', &[*kind, *start], Some(*target));
             }
+            Record::Part { port, mechanism } => write_call(out, b'S', &[*port, *mechanism], None),
         }
     }
+}
+
+/// Appends a letter, a length and so many bytes.
+fn write_lent(out: &mut Vec<u8>, letter: u8, bytes: &[u8]) {
+    out.push(letter);
+    out.extend((bytes.len() as u32).to_le_bytes());
+    out.extend(bytes);
+}
+
+/// Appends a letter, numbers of 4 bytes, and the last one of 8 bytes if there is one.
+fn write_call(out: &mut Vec<u8>, letter: u8, numbers: &[u32], last: Option<u64>) {
+    out.push(letter);
+    numbers.iter().for_each(|number| out.extend(number.to_le_bytes()));
+    last.iter().for_each(|number| out.extend(number.to_le_bytes()));
 }
 
 impl fmt::Display for Record {
@@ -55,6 +78,7 @@ impl fmt::Display for Record {
     fn fmt(&self, out: &mut fmt::Formatter) -> fmt::Result {
         match self {
             Record::Picture(bytes) => write!(out, "picture of {} bytes", bytes.len()),
+            Record::Patch(bytes) => write!(out, "patch of {} bytes", bytes.len()),
             Record::Report => write!(out, "report"),
             Record::Check => write!(out, "check"),
             Record::Walk { kind, start, target } => {
@@ -64,6 +88,12 @@ impl fmt::Display for Record {
                 write!(out, "claim port {port} target kind {target_kind} target {target:x}h")
             }
             Record::Conversion { port, id } => write!(out, "conversion port {port} ID {id:x}h"),
+            Record::TrialReport => write!(out, "trial report"),
+            Record::TrialCheck => write!(out, "trial check"),
+            Record::TrialWalk { kind, start, target } => {
+                write!(out, "trial walk kind {kind} start {start} target {target:x}h")
+            }
+            Record::Part { port, mechanism } => write!(out, "part port {port} mechanism {mechanism}"),
         }
     }
 }
@@ -101,13 +131,17 @@ impl<'a> Records<'a> {
         Ok(u64::from_le_bytes(bytes.try_into().expect("8 bytes were taken")))
     }
 
+    /// Takes a length and so many bytes.
+    fn take_lent(&mut self) -> Result<Vec<u8>, String> {
+        let length = self.take_4()? as usize;
+        Ok(self.take(length)?.to_vec())
+    }
+
     /// Takes one record.
     fn take_record(&mut self) -> Result<Record, String> {
         match self.take(1)?[0] {
-            b'P' => {
-                let length = self.take_4()? as usize;
-                Ok(Record::Picture(self.take(length)?.to_vec()))
-            }
+            b'P' => Ok(Record::Picture(self.take_lent()?)),
+            b'Q' => Ok(Record::Patch(self.take_lent()?)),
             b'R' => Ok(Record::Report),
             b'C' => Ok(Record::Check),
             b'W' => Ok(Record::Walk { kind: self.take_4()?, start: self.take_4()?, target: self.take_8()? }),
@@ -117,6 +151,12 @@ impl<'a> Records<'a> {
                 target: self.take_8()?,
             }),
             b'V' => Ok(Record::Conversion { port: self.take_4()?, id: self.take_8()? }),
+            b'X' => Ok(Record::TrialReport),
+            b'T' => Ok(Record::TrialCheck),
+            b'U' => {
+                Ok(Record::TrialWalk { kind: self.take_4()?, start: self.take_4()?, target: self.take_8()? })
+            }
+            b'S' => Ok(Record::Part { port: self.take_4()?, mechanism: self.take_4()? }),
             letter => Err(format!("no record begins with byte {letter}")),
         }
     }
@@ -137,20 +177,81 @@ impl Iterator for Records<'_> {
     }
 }
 
-/// The answer line to a record about the lent picture; none to a picture itself.
-pub fn answer(judge: &Judge, record: &Record) -> Option<String> {
-    match record {
-        Record::Picture(_) => None,
-        Record::Report => Some(judge.report().trim_end().replace('\n', "/")),
-        Record::Check => Some(call_line(|buffer| judge.check_call(buffer))),
-        Record::Walk { kind, start, target } => {
-            Some(call_line(|buffer| judge.walk_call(buffer, *kind, *start, *target)))
-        }
-        Record::Claim { port, target_kind, target } => {
-            Some(word_line(judge.claim(*port, *target_kind, *target), claim_word))
-        }
-        Record::Conversion { port, id } => Some(word_line(judge.conversion(*port, *id), conversion_word)),
+/// What is lent from record to record, with its judges. Both slices are empty at first; a new one keeps
+/// the other.
+pub struct Lent {
+    picture: Vec<u8>,
+    patch: Vec<u8>,
+    judge: Judge,
+    trial: OnceCell<Judge>,
+}
+
+impl Lent {
+    /// This picture and this patch.
+    pub fn of(picture: Vec<u8>, patch: Vec<u8>) -> Lent {
+        Lent { judge: Judge::new(&picture), picture, patch, trial: OnceCell::new() }
     }
+
+    /// Goes on to the next record: what it lends takes the place of what was lent; a call is answered.
+    pub fn take(&mut self, record: &Record) -> Option<String> {
+        match record {
+            Record::Picture(bytes) => *self = Lent::of(bytes.clone(), std::mem::take(&mut self.patch)),
+            Record::Patch(bytes) => {
+                self.patch = bytes.clone();
+                self.trial = OnceCell::new();
+            }
+            call if call.is_of_trial() => return Some(self.answer_of_trial(call)),
+            call => return Some(self.answer(call)),
+        }
+        None
+    }
+
+    /// The judge of picture and patch.
+    fn trial(&self) -> &Judge {
+        self.trial.get_or_init(|| Judge::of_trial(&self.picture, &self.patch))
+    }
+
+    /// The answer line to a call about the picture.
+    fn answer(&self, call: &Record) -> String {
+        match call {
+            Record::Report => report_line(&self.judge),
+            Record::Check => check_line(&self.judge),
+            Record::Walk { kind, start, target } => walk_line(&self.judge, *kind, *start, *target),
+            Record::Claim { port, target_kind, target } => {
+                word_line(self.judge.claim(*port, *target_kind, *target), claim_word)
+            }
+            Record::Conversion { port, id } => word_line(self.judge.conversion(*port, *id), conversion_word),
+            other => unreachable!("{other} is no call about the picture"),
+        }
+    }
+
+    /// The answer line to a call about picture and patch.
+    fn answer_of_trial(&self, call: &Record) -> String {
+        match call {
+            Record::TrialReport => report_line(self.trial()),
+            Record::TrialCheck => check_line(self.trial()),
+            Record::TrialWalk { kind, start, target } => walk_line(self.trial(), *kind, *start, *target),
+            Record::Part { port, mechanism } => {
+                word_line(part(&self.picture, &self.patch, *port, *mechanism), part_words)
+            }
+            other => unreachable!("{other} is no call about a trial"),
+        }
+    }
+}
+
+/// The line of a report, or of a trial's.
+fn report_line(judge: &Judge) -> String {
+    judge.report().trim_end().replace('\n', "/")
+}
+
+/// The line of a check, or of a trial's.
+fn check_line(judge: &Judge) -> String {
+    call_line(|buffer| judge.check_call(buffer))
+}
+
+/// The line of a walk, or of a trial's.
+fn walk_line(judge: &Judge, kind: u32, start: u32, target: u64) -> String {
+    call_line(|buffer| judge.walk_call(buffer, kind, start, target))
 }
 
 /// The line of a controller call: the number, and the 40 bytes in hexadecimal.
@@ -161,8 +262,8 @@ fn call_line(call: impl FnOnce(&mut [u8]) -> u32) -> String {
     format!("{number} {digits}")
 }
 
-/// The line of a claim or conversion: a refusal's number alone, or 0 and a word.
-fn word_line<T>(answer: Result<T, Refusal>, word: fn(T) -> &'static str) -> String {
+/// The line of a claim, a conversion or a part: a refusal's number alone, or 0 and words.
+fn word_line<T, W: fmt::Display>(answer: Result<T, Refusal>, word: fn(T) -> W) -> String {
     match answer {
         Ok(answer) => format!("0 {}", word(answer)),
         Err(refusal) => refusal.number.to_string(),
@@ -188,23 +289,29 @@ fn conversion_word(conversion: Conversion) -> &'static str {
     }
 }
 
-/// All answer lines to a batch; before the first picture, the picture is empty.
+/// The words for a part: the slice, and where and how long it is there.
+fn part_words(part: Part) -> String {
+    let slice = match part.slice {
+        Slice::Picture => "picture",
+        Slice::Patch => "patch",
+    };
+    format!("{slice} {} {}", part.at, part.length)
+}
+
+/// All answer lines to a batch; before the first picture and the first patch, each is empty.
 pub fn answers(batch: &[u8]) -> Result<Vec<String>, String> {
-    let mut judge = Judge::new(&[]);
+    let mut lent = Lent::of(Vec::new(), Vec::new());
     let mut lines = Vec::new();
     for record in Records::of(batch) {
-        let record = record?;
-        if let Record::Picture(bytes) = &record {
-            judge = Judge::new(bytes);
-        }
-        lines.extend(answer(&judge, &record));
+        lines.extend(lent.take(&record?));
     }
     Ok(lines)
 }
 
-/// Two answers that are not the same, with the picture and the call that they answer.
+/// Two answers that are not the same, with what was lent and the call that they answer.
 pub struct Difference {
     pub picture: Vec<u8>,
+    pub patch: Vec<u8>,
     pub call: Record,
     pub expected: String,
     pub actual: String,
@@ -219,7 +326,7 @@ pub fn differences(
 ) -> Result<Vec<Difference>, String> {
     let mut expected = expected.lines();
     let mut actual = actual.lines();
-    let mut picture = Vec::new();
+    let (mut picture, mut patch) = (Vec::new(), Vec::new());
     let mut found = Vec::new();
     for record in Records::of(batch) {
         let call = match record? {
@@ -227,12 +334,17 @@ pub fn differences(
                 picture = bytes;
                 continue;
             }
+            Record::Patch(bytes) => {
+                patch = bytes;
+                continue;
+            }
             call => call,
         };
         let line = |line: Option<&str>| line.unwrap_or("(no line)").to_string();
         let (expected, actual) = (line(expected.next()), line(actual.next()));
         if expected != actual && found.len() < most {
-            found.push(Difference { picture: picture.clone(), call, expected, actual });
+            let (picture, patch) = (picture.clone(), patch.clone());
+            found.push(Difference { picture, patch, call, expected, actual });
         }
     }
     match (expected.next(), actual.next()) {

@@ -1,24 +1,27 @@
 //! Hand-written cases with the answers that the papers give: the one-port picture and C1 to C12 of
-//! the paper, the numbered decisions on open points, and the cases that a first build gets wrong.
+//! the paper, the numbered decisions on open points, and the cases that a first build gets wrong. Those
+//! of trials are in their own file.
 
 use crate::batch::Record;
 use crate::draft::{Draft, DraftPort, VectorShape, Which, DOWNSTREAM, NO_PARENT, ROOT, UPSTREAM};
+use crate::trial_cases::{cases_before_a_patch, trial_cases};
 use Which::{High, Low, Rid};
 
-/// A picture with calls, and the line that answers each of them.
+/// A picture with calls, and the line that answers each of them; a patch where one is lent.
 pub struct Case {
     pub name: &'static str,
     pub picture: Vec<u8>,
+    pub patch: Option<Vec<u8>>,
     pub calls: Vec<(Record, String)>,
 }
 
 /// A root port that claims nothing.
-fn root(own_id: u16) -> DraftPort {
+pub fn root(own_id: u16) -> DraftPort {
     DraftPort::silent(ROOT, NO_PARENT, own_id)
 }
 
 /// An upstream port that claims nothing.
-fn up(parent: u8, own_id: u16) -> DraftPort {
+pub fn up(parent: u8, own_id: u16) -> DraftPort {
     DraftPort::silent(UPSTREAM, parent, own_id)
 }
 
@@ -28,7 +31,7 @@ fn down(parent: u8, own_id: u16) -> DraftPort {
 }
 
 /// Size code, granularity code, start.
-fn shape(size_code: u32, granularity_code: u32, start: u64) -> VectorShape {
+pub fn shape(size_code: u32, granularity_code: u32, start: u64) -> VectorShape {
     VectorShape { size_code, granularity_code, start }
 }
 
@@ -44,7 +47,7 @@ fn case(name: &'static str, ports: Vec<DraftPort>, calls: Vec<(Record, String)>)
 
 /// A case of a picture given byte by byte.
 fn raw_case(name: &'static str, picture: Vec<u8>, calls: Vec<(Record, String)>) -> Case {
-    Case { name, picture, calls }
+    Case { name, picture, patch: None, calls }
 }
 
 /// The report gives this line.
@@ -53,25 +56,25 @@ fn reports(line: &str) -> (Record, String) {
 }
 
 /// The check gives this number, these ports (255 where none) and this least target.
-fn checks(number: u8, port: u8, second: u8, target: Option<u64>) -> (Record, String) {
+pub fn checks(number: u8, port: u8, second: u8, target: Option<u64>) -> (Record, String) {
     let target = target.map_or([255; 8], u64::to_le_bytes);
     (Record::Check, line(number, [0, port, second, 0, 0], &target))
 }
 
 /// A walk from a start ends so: end, port, second port and Function number, with this path.
-fn walks(kind: u32, start: u32, target: u64, end: [u8; 4], path: &[u8]) -> (Record, String) {
+pub fn walks(kind: u32, start: u32, target: u64, end: [u8; 4], path: &[u8]) -> (Record, String) {
     let [end, port, second, function] = end;
     let fields = [end, port, second, path.len() as u8, function];
     (Record::Walk { kind, start, target }, line(0, fields, path))
 }
 
 /// A walk is refused with this number, and this port or 255.
-fn walk_refused(kind: u32, start: u32, target: u64, number: u8, port: u8) -> (Record, String) {
+pub fn walk_refused(kind: u32, start: u32, target: u64, number: u8, port: u8) -> (Record, String) {
     (Record::Walk { kind, start, target }, line(number, [0, port, 255, 0, 0], &[]))
 }
 
 /// The number and the 40 bytes: end, port, second port, crossings, Function number; then the path.
-fn line(number: u8, fields: [u8; 5], path: &[u8]) -> String {
+pub fn line(number: u8, fields: [u8; 5], path: &[u8]) -> String {
     let mut bytes = vec![number];
     bytes.extend(fields);
     bytes.extend([0, 0]);
@@ -126,6 +129,7 @@ fn chain(first_port: u8, length: u8, base_mib: u16) -> Vec<DraftPort> {
 /// Every hand-written case.
 pub fn all_cases() -> Vec<Case> {
     [
+        cases_before_a_patch(),
         paper_cases(),
         answer_cases(),
         register_cases(),
@@ -133,6 +137,7 @@ pub fn all_cases() -> Vec<Case> {
         walking_cases(),
         first_build_cases(),
         scan_cases(),
+        trial_cases(),
     ]
     .into_iter()
     .flatten()

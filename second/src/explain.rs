@@ -40,7 +40,7 @@ pub fn explain(bytes: &[u8]) -> String {
 }
 
 /// The text with its first letter upper case.
-fn with_upper_case(text: &str) -> String {
+pub fn with_upper_case(text: &str) -> String {
     let (first, rest) = text.split_at(1);
     first.to_uppercase() + rest
 }
@@ -107,7 +107,7 @@ fn below_text(records: &[Record], parent: usize) -> String {
 }
 
 /// A port with the tree above it, which keeps the rules.
-fn port_in_tree(records: &[Record], port: usize) -> String {
+pub fn port_in_tree(records: &[Record], port: usize) -> String {
     let record = &records[port];
     let place = match record.kind() {
         Some(Kind::Root) => ", a root port".to_string(),

@@ -13,13 +13,14 @@ use crate::spoil::{
     chain_at_the_edge, misplace, reading_edges, scatter_own_ids, scramble_settings, scramble_starts, spoil,
 };
 use crate::topology::{grow, port_count, ALL_FORMS};
+use crate::trials::write_trials;
 use crate::wild::{add_noise, make_memory_wild, wild};
 
 /// Numbers that are no start anywhere; some would be one if they were cut to 8 or 16 bits.
-const BAD_STARTS: [u32; 8] = [64, 254, 256, 300, 511, 0xFF00, 0x1_0000, u32::MAX];
+pub const BAD_STARTS: [u32; 8] = [64, 254, 256, 300, 511, 0xFF00, 0x1_0000, u32::MAX];
 
 /// Packet kinds that there are not.
-const BAD_KINDS: [u32; 5] = [3, 255, 256, 258, u32::MAX];
+pub const BAD_KINDS: [u32; 5] = [3, 255, 256, 258, u32::MAX];
 
 /// IDs over FFFFh, some of which would be good IDs if they were cut.
 const LONG_IDS: [u64; 4] = [0x1_0000, 0x1_0308, 0x1_0000_0000, u64::MAX];
@@ -33,14 +34,21 @@ pub fn generate(seed: u64, count: u64) -> Vec<u8> {
     for index in 0..count {
         let random = &mut random_of(seed, index);
         let picture = random_picture(random);
-        write_with_calls(random, picture, &mut batch);
+        let judge = Judge::new(&picture);
+        write_with_calls(random, &picture, &judge, &mut batch);
+        write_trials(&mut random_of_trials(seed, index), &picture, &judge, &mut batch);
     }
     batch
 }
 
 /// The random numbers of one picture of a seed.
-fn random_of(seed: u64, index: u64) -> Random {
+pub fn random_of(seed: u64, index: u64) -> Random {
     Random::new(seed.wrapping_mul(0x1_0000_0001).wrapping_add(index))
+}
+
+/// Those of its trials, apart from the others, so that trials change nothing in the rest of a batch.
+fn random_of_trials(seed: u64, index: u64) -> Random {
+    Random::new(!random_of(seed, index).bits())
 }
 
 /// So many pictures: every other one from the families of a batch, and between them pictures for each
@@ -58,7 +66,7 @@ pub fn pictures(seed: u64, count: u64) -> impl Iterator<Item = Vec<u8>> {
 
 /// A picture refused by a number from 1 to 10, often for more than one cause; several tries, and
 /// whatever the last one gives.
-fn refused_picture(random: &mut Random, number: u8) -> Vec<u8> {
+pub fn refused_picture(random: &mut Random, number: u8) -> Vec<u8> {
     let good = if random.percent(50) { wild(random) } else { sound_draft(random) }.bytes();
     let mut picture = Vec::new();
     for _ in 0..2_000 {
@@ -96,8 +104,10 @@ pub fn hand_written() -> Vec<u8> {
     let mut batch = Vec::new();
     for case in all_cases() {
         Record::Picture(case.picture).write(&mut batch);
-        Record::Report.write(&mut batch);
-        Record::Check.write(&mut batch);
+        match case.patch {
+            Some(patch) => Record::Patch(patch).write(&mut batch),
+            None => [Record::Report, Record::Check].iter().for_each(|call| call.write(&mut batch)),
+        }
         case.calls.iter().for_each(|(call, _)| call.write(&mut batch));
     }
     for picture in reading_edges() {
@@ -161,9 +171,8 @@ pub fn sound_draft(random: &mut Random) -> Draft {
 }
 
 /// Writes a picture, its report and check, and calls that suit it.
-fn write_with_calls(random: &mut Random, picture: Vec<u8>, batch: &mut Vec<u8>) {
-    let judge = Judge::new(&picture);
-    Record::Picture(picture).write(batch);
+fn write_with_calls(random: &mut Random, picture: &[u8], judge: &Judge, batch: &mut Vec<u8>) {
+    Record::Picture(picture.to_vec()).write(batch);
     Record::Report.write(batch);
     Record::Check.write(batch);
     let mut calls = match judge.reading() {
@@ -221,23 +230,28 @@ fn calls_on(random: &mut Random, picture: &Picture) -> Vec<Record> {
     calls
 }
 
-/// A walk of that kind. From the host, from a device port, or sometimes from where none can start;
-/// configuration requests come mostly from the host.
-fn walk_call(random: &mut Random, picture: &Picture, kind: u32) -> Record {
+/// A walk of that kind to something around the edges of a port.
+pub fn walk_call(random: &mut Random, picture: &Picture, kind: u32) -> Record {
+    let start = some_start(random, picture, kind);
+    let aim = some_aim(random, picture);
+    let target = if kind == 1 { address_around(random, aim) } else { id_around(random, aim) };
+    Record::Walk { kind, start, target }
+}
+
+/// The host, a device port, or sometimes where no walk can start; configuration requests come mostly
+/// from the host.
+pub fn some_start(random: &mut Random, picture: &Picture, kind: u32) -> u32 {
     let device_ports: Vec<usize> =
         (0..picture.ports.len()).filter(|&port| picture.is_device_port(port)).collect();
     let from_host = random.percent(if kind == 2 { 90 } else { 40 });
-    let start = if random.percent(3) {
+    if random.percent(3) {
         let any_port = random_port(random, picture) as u32;
         random.pick(&[any_port, picture.ports.len() as u32, 256])
     } else if from_host || device_ports.is_empty() {
         255
     } else {
         deepest_of_two(random, picture, &device_ports) as u32
-    };
-    let aim = some_aim(random, picture);
-    let target = if kind == 1 { address_around(random, aim) } else { id_around(random, aim) };
-    Record::Walk { kind, start, target }
+    }
 }
 
 /// A claim by some port, or by one beyond the count.

@@ -1,9 +1,10 @@
-//! The calls on a lent picture: check, walk, claim, conversion and report.
+//! The calls on a lent picture, or on picture and patch: check, walk, claim, conversion and report.
 
 use std::cell::OnceCell;
 
 use crate::check::check;
 use crate::claims::Conversion;
+use crate::patch::put_in;
 use crate::picture::{read, Picture, Refusal, Target};
 use crate::walk::{walk_configuration, walk_packet, End, Walk};
 
@@ -17,6 +18,15 @@ impl Judge {
     /// Reads the picture.
     pub fn new(picture: &[u8]) -> Judge {
         Judge { reading: read(picture), checked: OnceCell::new() }
+    }
+
+    /// The judge of a trial: of the picture with the patch put in. A refused patch counts as a picture
+    /// that does not read.
+    pub fn of_trial(picture: &[u8], patch: &[u8]) -> Judge {
+        match put_in(picture, patch) {
+            Ok(patched) => Judge::new(&patched),
+            Err(refusal) => Judge { reading: Err(refusal), checked: OnceCell::new() },
+        }
     }
 
     /// The picture if it reads, else the refusal.

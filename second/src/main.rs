@@ -6,7 +6,10 @@ use std::process::ExitCode;
 
 use second::batch::{answers, differences, Record, Records};
 use second::explain::explain;
+use second::explain_trial::explain_trial;
 use second::generate::{generate, hand_written, pictures};
+use second::judge::Judge;
+use second::pairs::pairs;
 use second::samples::{sample, SAMPLE_NAMES};
 use second::tree::tree;
 
@@ -19,8 +22,12 @@ const USAGE: &str = "usage:
   second picture SEED KIND                   a full sound picture on standard output; KIND is
                                              flat, nested, chain, high, low, rid or wide
   second pictures SEED COUNT FOLDER          random pictures, FOLDER/1.picture and so on
+  second patches SEED COUNT FOLDER           random pictures with a patch each, FOLDER/1.picture, FOLDER/1.patch
+                                             and so on
   second tree                                what `fpb tree' prints of the picture on standard input
-  second explain                             what `fpb report --explain' prints of it";
+  second explain                             what `fpb report --explain' prints of it
+  second explain PATCH                       what `fpb trial --explain' prints of it and a file with a patch
+  second trial PATCH                         what `fpb trial' prints of it and a file with a patch";
 
 /// How many differences are shown.
 const DIFFERENCES_SHOWN: usize = 5;
@@ -36,8 +43,11 @@ fn main() -> ExitCode {
         ["tally", answers, batch] => tally_command(answers, batch),
         ["picture", seed, kind] => picture_command(seed, kind),
         ["pictures", seed, count, folder] => pictures_command(seed, count, folder),
+        ["patches", seed, count, folder] => patches_command(seed, count, folder),
         ["tree"] => print_of_picture(tree),
         ["explain"] => print_of_picture(explain),
+        ["explain", patch] => print_of_trial(patch, explain_trial),
+        ["trial", patch] => print_of_trial(patch, trial),
         _ => Err(USAGE.to_string()),
     };
     done.unwrap_or_else(|message| {
@@ -93,9 +103,10 @@ fn compare_command(expected: &str, actual: &str, batch: &str) -> Result<ExitCode
     let batch = read_bytes(batch)?;
     let found = differences(&batch, &read_text(expected)?, &read_text(actual)?, DIFFERENCES_SHOWN)?;
     for (index, difference) in found.iter().enumerate() {
-        let file = format!("difference-{}.picture", index + 1);
-        std::fs::write(&file, &difference.picture).map_err(|error| error.to_string())?;
-        println!("picture  {file} ({} bytes)", difference.picture.len());
+        keep("picture", index, &difference.picture)?;
+        if difference.call.is_of_trial() {
+            keep("patch", index, &difference.patch)?;
+        }
         println!("call     {}", difference.call);
         println!("expected {}", difference.expected);
         println!("actual   {}", difference.actual);
@@ -107,6 +118,14 @@ fn compare_command(expected: &str, actual: &str, batch: &str) -> Result<ExitCode
     Ok(ExitCode::from(1))
 }
 
+/// Writes what a difference is about to a file.
+fn keep(what: &str, index: usize, bytes: &[u8]) -> Result<(), String> {
+    let file = format!("difference-{}.{what}", index + 1);
+    write_file(&file, bytes)?;
+    println!("{what:8} {file} ({} bytes)", bytes.len());
+    Ok(())
+}
+
 /// `tally ANSWERS BATCH`
 fn tally_command(lines: &str, batch: &str) -> Result<ExitCode, String> {
     let batch = read_bytes(batch)?;
@@ -114,17 +133,7 @@ fn tally_command(lines: &str, batch: &str) -> Result<ExitCode, String> {
     let mut lines = lines.lines();
     let mut counts: BTreeMap<String, u64> = BTreeMap::new();
     for record in Records::of(&batch) {
-        let heading = match record? {
-            Record::Picture(_) => continue,
-            Record::Report => "report",
-            Record::Check => "check",
-            Record::Walk { kind: 0, .. } => "walk by ID",
-            Record::Walk { kind: 1, .. } => "walk by address",
-            Record::Walk { kind: 2, .. } => "walk of a configuration request",
-            Record::Walk { .. } => "walk of no kind",
-            Record::Claim { .. } => "claim",
-            Record::Conversion { .. } => "conversion",
-        };
+        let Some(heading) = heading(&record?) else { continue };
         let line = lines.next().ok_or("there are fewer answers than calls")?;
         *counts.entry(format!("{heading}: {}", gist(heading, line))).or_default() += 1;
     }
@@ -134,17 +143,40 @@ fn tally_command(lines: &str, batch: &str) -> Result<ExitCode, String> {
     Ok(ExitCode::SUCCESS)
 }
 
-/// What is counted of an answer line: the first two words of a report, the number of a check, number,
-/// end and crossings of a walk, and all of the others.
+/// What the answers to a call are counted under; nothing for a record that asks nothing.
+fn heading(record: &Record) -> Option<&'static str> {
+    match record {
+        Record::Picture(_) | Record::Patch(_) => None,
+        Record::Report => Some("report"),
+        Record::Check => Some("check"),
+        Record::Walk { kind: 0, .. } => Some("walk by ID"),
+        Record::Walk { kind: 1, .. } => Some("walk by address"),
+        Record::Walk { kind: 2, .. } => Some("walk of a configuration request"),
+        Record::Walk { .. } => Some("walk of no kind"),
+        Record::Claim { .. } => Some("claim"),
+        Record::Conversion { .. } => Some("conversion"),
+        Record::TrialReport => Some("trial report"),
+        Record::TrialCheck => Some("trial check"),
+        Record::TrialWalk { kind: 0, .. } => Some("trial walk by ID"),
+        Record::TrialWalk { kind: 1, .. } => Some("trial walk by address"),
+        Record::TrialWalk { kind: 2, .. } => Some("trial walk of a configuration request"),
+        Record::TrialWalk { .. } => Some("trial walk of no kind"),
+        Record::Part { .. } => Some("part"),
+    }
+}
+
+/// What is counted of an answer line: the first two words of a report and of a part, the number of a
+/// check, number, end and crossings of a walk, and all of the others.
 fn gist(heading: &str, line: &str) -> String {
     let (first, rest) = line.split_once(' ').unwrap_or((line, ""));
-    match heading {
+    match heading.strip_prefix("trial ").unwrap_or(heading) {
         "report" => match first {
             "refused" => format!("refused {}", rest.split(' ').next().unwrap_or("")),
             _ => "clear".to_string(),
         },
         "check" => format!("number {first:>2}"),
-        _ if heading.starts_with("walk") => {
+        "part" => format!("{first} {}", rest.split(' ').next().unwrap_or("")),
+        walk if walk.starts_with("walk") => {
             format!("number {first:>2} end {} crossings {}", &rest[2..4], &rest[8..10])
         }
         _ => line.to_string(),
@@ -161,15 +193,45 @@ fn picture_command(seed: &str, kind: &str) -> Result<ExitCode, String> {
 
 /// `pictures SEED COUNT FOLDER`
 fn pictures_command(seed: &str, count: &str, folder: &str) -> Result<ExitCode, String> {
-    std::fs::create_dir_all(folder).map_err(|error| format!("{folder}: {error}"))?;
+    make_folder(folder)?;
     for (index, picture) in pictures(number(seed)?, number(count)?).enumerate() {
-        let file = format!("{folder}/{}.picture", index + 1);
-        std::fs::write(&file, picture).map_err(|error| format!("{file}: {error}"))?;
+        write_file(&format!("{folder}/{}.picture", index + 1), &picture)?;
     }
     Ok(ExitCode::SUCCESS)
 }
 
-/// `tree` or `explain`
+/// `patches SEED COUNT FOLDER`
+fn patches_command(seed: &str, count: &str, folder: &str) -> Result<ExitCode, String> {
+    make_folder(folder)?;
+    for (index, pair) in pairs(number(seed)?, number(count)?).enumerate() {
+        write_file(&format!("{folder}/{}.picture", index + 1), &pair.picture)?;
+        write_file(&format!("{folder}/{}.patch", index + 1), &pair.patch)?;
+    }
+    Ok(ExitCode::SUCCESS)
+}
+
+/// Makes a folder, unless it is there.
+fn make_folder(folder: &str) -> Result<(), String> {
+    std::fs::create_dir_all(folder).map_err(|error| format!("{folder}: {error}"))
+}
+
+/// Writes a file.
+fn write_file(file: &str, bytes: &[u8]) -> Result<(), String> {
+    std::fs::write(file, bytes).map_err(|error| format!("{file}: {error}"))
+}
+
+/// `tree`, or `explain` without a patch
 fn print_of_picture(text: fn(&[u8]) -> String) -> Result<ExitCode, String> {
     print(text(&standard_input()?).as_bytes())
+}
+
+/// What `fpb trial` prints.
+fn trial(picture: &[u8], patch: &[u8]) -> String {
+    Judge::of_trial(picture, patch).report()
+}
+
+/// `trial PATCH` or `explain PATCH`
+fn print_of_trial(patch: &str, text: fn(&[u8], &[u8]) -> String) -> Result<ExitCode, String> {
+    let patch = read_bytes(patch)?;
+    print(text(&standard_input()?, &patch).as_bytes())
 }

@@ -176,7 +176,7 @@ fn half(bytes: &[u8], at: usize) -> u16 {
 }
 
 /// Four little-endian bytes.
-fn word(bytes: &[u8], at: usize) -> u32 {
+pub fn word(bytes: &[u8], at: usize) -> u32 {
     u32::from_le_bytes([bytes[at], bytes[at + 1], bytes[at + 2], bytes[at + 3]])
 }
 
@@ -323,6 +323,11 @@ impl Record<'_> {
     /// The three vectors in the order in which they follow one another.
     pub fn settings(&self) -> [Setting; 3] {
         [self.rid(), self.low(), self.high()]
+    }
+
+    /// How many bytes each of the three vectors takes.
+    pub fn vector_lengths(&self) -> [usize; 3] {
+        self.settings().map(|setting| setting.length())
     }
 
     /// Memory Base..Limit: register bits 15:4 are address bits 31:20, the limit filled with ones.
@@ -490,7 +495,7 @@ fn judge_layout(records: &[Record], total: usize) -> Result<(), Refusal> {
         if record.vectors_start() as usize != offset {
             return Err(Refusal::at_port(10, port));
         }
-        offset += record.settings().iter().map(Setting::length).sum::<usize>();
+        offset += record.vector_lengths().iter().sum::<usize>();
     }
     if offset != total {
         return Err(Refusal::at_port(10, 255));

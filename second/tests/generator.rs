@@ -1,6 +1,7 @@
 //! The generator gives what it says, and the candidates of the check suffice.
 
 use std::collections::BTreeSet;
+use std::sync::OnceLock;
 
 use second::batch::{answers, differences, Record, Records};
 use second::check::candidate_addresses;
@@ -94,18 +95,25 @@ fn the_same_seed_gives_the_same_batch() {
     assert_ne!(generate(5, 20), generate(6, 20));
 }
 
+/// The calls of a batch with their answers, worked out once for all tests.
+fn calls_with_answers() -> &'static [(Record, String)] {
+    static ANSWERED: OnceLock<Vec<(Record, String)>> = OnceLock::new();
+    ANSWERED.get_or_init(|| {
+        let batch = generate(3, 400);
+        let lines = answers(&batch).expect("the batch is whole");
+        Records::of(&batch).map(Result::unwrap).filter(Record::is_call).zip(lines).collect()
+    })
+}
+
 #[test]
 fn all_numbers_and_ends_occur() {
-    let batch = generate(3, 400);
-    let lines = answers(&batch).expect("the batch is whole");
-    let calls = Records::of(&batch).map(Result::unwrap).filter(|call| !matches!(call, Record::Picture(_)));
     let mut checked = BTreeSet::new();
     let mut ended = BTreeSet::new();
-    for (call, line) in calls.zip(&lines) {
+    for (call, line) in calls_with_answers() {
         let (number, bytes) = line.split_once(' ').unwrap_or((line, ""));
         match call {
             Record::Check => checked.insert(number.parse::<u32>().unwrap()),
-            Record::Walk { kind, .. } => ended.insert((kind.min(3), bytes[2..4].to_string())),
+            Record::Walk { kind, .. } => ended.insert((*kind.min(&3), bytes[2..4].to_string())),
             _ => false,
         };
     }
@@ -119,6 +127,28 @@ fn all_numbers_and_ends_occur() {
 }
 
 #[test]
+fn all_numbers_of_trials_occur() {
+    let (mut checked, mut walked, mut parted) = (BTreeSet::new(), BTreeSet::new(), BTreeSet::new());
+    for (call, line) in calls_with_answers() {
+        let mut words = line.split(' ');
+        let number: u32 = words.next().and_then(|word| word.parse().ok()).unwrap_or(0);
+        match call {
+            Record::TrialCheck => checked.insert(number),
+            Record::TrialWalk { kind, .. } if number == 0 => walked.insert((*kind, line[4..6].to_string())),
+            Record::Part { .. } => parted.insert((number, words.next().unwrap_or("").to_string())),
+            _ => false,
+        };
+    }
+    assert_eq!(checked, (0..=15).chain(30..=32).collect());
+    for (kind, ends) in [(0, 1..=5), (2, 1..=5), (1, 3..=5)] {
+        ends.for_each(|end| assert!(walked.contains(&(kind, format!("{end:02}"))), "kind {kind} end {end}"));
+    }
+    for answer in [(0, "picture"), (0, "patch"), (16, ""), (30, ""), (31, ""), (32, "")] {
+        assert!(parted.contains(&(answer.0, answer.1.to_string())), "{answer:?}");
+    }
+}
+
+#[test]
 fn a_batch_is_read_as_it_was_written() {
     let batch = hand_written();
     let mut again = Vec::new();
@@ -127,7 +157,7 @@ fn a_batch_is_read_as_it_was_written() {
     }
     assert_eq!(batch, again);
     assert!(answers(&batch[..batch.len() - 1]).is_err());
-    assert!(answers(b"X").is_err());
+    assert!(answers(b"Z").is_err());
 }
 
 #[test]

@@ -1,16 +1,16 @@
 //! The paper's own examples, the decisions on open points, and the cases that a first build gets
 //! wrong: each hand-written call gives the answer written beside it.
 
-use second::batch::answer;
+use second::batch::Lent;
 use second::cases::{all_cases, one_port_picture, Case};
 use second::judge::Judge;
 use second::picture::Vector;
 
 /// Every call of a case gives the answer written beside it.
 fn holds(case: &Case) {
-    let judge = Judge::new(&case.picture);
+    let mut lent = Lent::of(case.picture.clone(), case.patch.clone().unwrap_or_default());
     for (call, expected) in &case.calls {
-        assert_eq!(answer(&judge, call).as_ref(), Some(expected), "{}: {call}", case.name);
+        assert_eq!(lent.take(call).as_ref(), Some(expected), "{}: {call}", case.name);
     }
 }
 
@@ -73,6 +73,14 @@ headings! {
     decision_26: "decision 26",
     decision_27: "decision 27",
     what_a_first_build_gets_wrong: "first build",
+    the_quicker_scan: "item 5",
+    trials_before_a_patch: "item 2, no patch",
+    trials_accepted: "item 2, accepted",
+    trials_refused_by_30: "item 2, number 30",
+    trials_refused_by_31: "item 2, number 31",
+    trials_refused_by_32: "item 2, number 32",
+    trials_with_two_faults: "item 2, order",
+    where_vectors_lie: "item 2, parts",
 }
 
 /// The entry of a target in a vector of 256 entries.

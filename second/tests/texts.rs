@@ -2,6 +2,7 @@
 
 use second::draft::{Draft, DraftPort, VectorShape, Which, DOWNSTREAM, NO_PARENT, ROOT, UPSTREAM};
 use second::explain::{explain, NUMBER_TEXTS};
+use second::explain_trial::PATCH_TEXTS;
 use second::generate::pictures;
 use second::judge::Judge;
 use second::tree::tree;
@@ -33,10 +34,12 @@ fn says(picture: &[u8], line: &str, follows: &str) {
 fn the_texts_are_those_of_the_repository() {
     let path = concat!(env!("CARGO_MANIFEST_DIR"), "/../tests/number-texts");
     let file = std::fs::read_to_string(path).expect("tests/number-texts is there");
-    let wanted: Vec<String> = file.lines().take(16).map(str::to_string).collect();
-    let ours: Vec<String> =
-        NUMBER_TEXTS.iter().enumerate().map(|(number, text)| format!("{number} {text}")).collect();
-    assert_eq!(ours, wanted);
+    let numbered = |first: usize, texts: &[&str]| -> Vec<String> {
+        texts.iter().enumerate().map(|(i, text)| format!("{} {text}", first + i)).collect()
+    };
+    let lines: Vec<&str> = file.lines().collect();
+    assert_eq!(lines[..16], numbered(0, &NUMBER_TEXTS));
+    assert_eq!(lines[18..], numbered(30, &PATCH_TEXTS));
 }
 
 #[test]

@@ -8,10 +8,16 @@
 #define KEPT 0xA5
 #define ROOM 100
 #define UNUSED {0}
+#define ROWS 3
+#define SHIFTS 8
 
 static uint8_t picture[65537];
 static uint8_t picture_before[65537];
 static size_t picture_len;
+static uint8_t patch_room[70000 + SHIFTS];
+static uint8_t patch_before[sizeof patch_room];
+static const uint8_t *patch;
+static size_t patch_len;
 static unsigned passed, failed;
 
 struct check_case {
@@ -26,6 +32,41 @@ struct walk_case {
     uint64_t target;
     uint8_t head[8];
     uint8_t path[FPB_PLACES];
+};
+
+/* A patch: the bytes lent of it, the count and total that its header says, its rows, and the entries set in its vectors. */
+struct patch_case {
+    size_t length;
+    uint32_t count, total;
+    struct {
+        uint32_t port, offset;
+    } rows[ROWS];
+    uint32_t entries[4];
+};
+
+/* Entry i of a vector that begins at byte `at` of the patch; 0 is none. */
+#define ENTRY(at, i) (8 * (at) + (i))
+
+/* A sample, in which the byte `at` is changed first unless that is 0, and a patch. */
+struct trial_case {
+    size_t at;
+    uint8_t byte;
+    struct patch_case patch;
+};
+
+struct trial_check {
+    struct trial_case trial;
+    struct check_case check;
+};
+
+struct trial_walk {
+    struct trial_case trial;
+    struct walk_case walk;
+};
+
+struct refused_patch {
+    uint8_t number;
+    struct patch_case patch;
 };
 
 /* number, end, port, second port, crossings, Function number, two zeros */
@@ -88,6 +129,125 @@ static const struct walk_case walks[] = {
     {"switch", FPB_ID, 511, 0x0300, {16, 0, 255, 255, 0, 0, 0, 0}, UNUSED},
 };
 
+/* New vectors for these ports of shared-granule (ports 2 and 3), last-id (port 1) and every-decoder (ports 3, 4 and 5). Of
+ * shared-granule, port 2 has entries 1 and 5 set and port 3 entries 5 and 9. */
+#define NO_ROW {0, 0}
+#define PORT_3(...) {48, 1, 48, {{3, 16}, NO_ROW, NO_ROW}, {__VA_ARGS__}}
+#define PORT_3_APART PORT_3(ENTRY(16, 6), ENTRY(16, 9), 0, 0)
+#define PORT_1(...) {48, 1, 48, {{1, 16}, NO_ROW, NO_ROW}, {__VA_ARGS__}}
+#define PORT_5(...) {112, 1, 112, {{5, 16}, NO_ROW, NO_ROW}, {__VA_ARGS__}}
+#define PORTS_3_4_5(...) {224, 3, 224, {{3, 32}, {4, 64}, {5, 128}}, {__VA_ARGS__}}
+#define NO_ENTRY {0, 0, 0, 0}
+/* With this byte port 3 has entry 6 set in place of entry 5, and shared-granule is sound. */
+#define APART 272, 0x40
+
+static const struct trial_check trial_checks[] = {
+    {{0, 0, PORT_3_APART}, {"shared-granule", {0, 0, 255, 255, 0, 0, 0, 0}, 0}},
+    {{0, 0, {88, 2, 88, {{2, 24}, {3, 56}, NO_ROW}, {ENTRY(24, 0), ENTRY(24, 255), ENTRY(56, 254), 0}}},
+     {"shared-granule", {0, 0, 255, 255, 0, 0, 0, 0}, 0}},
+    {{0, 0, {64, 3, 64, {{0, 32}, {1, 32}, {3, 32}}, {ENTRY(32, 6), 0, 0, 0}}},
+     {"shared-granule", {0, 0, 255, 255, 0, 0, 0, 0}, 0}},
+    {{0, 0, {32, 3, 32, {{0, 32}, {1, 32}, {3, 32}}, NO_ENTRY}}, {"switch", {0, 0, 255, 255, 0, 0, 0, 0}, 0}},
+    {{APART, PORT_3(ENTRY(16, 5), ENTRY(16, 9), 0, 0)}, {"shared-granule", {12, 0, 2, 3, 0, 0, 0, 0}, 0xE0500000}},
+    {{APART, PORT_3(ENTRY(16, 9), ENTRY(16, 1), 0, 0)}, {"shared-granule", {12, 0, 2, 3, 0, 0, 0, 0}, 0xE0100000}},
+    {{APART, {88, 2, 88, {{2, 24}, {3, 56}, NO_ROW}, {ENTRY(24, 7), ENTRY(24, 255), ENTRY(56, 255), 0}}},
+     {"shared-granule", {12, 0, 2, 3, 0, 0, 0, 0}, 0xEFF00000}},
+    {{0, 0, PORT_1(0, 0, 0, 0)}, {"last-id", {0, 0, 255, 255, 0, 0, 0, 0}, 0}},
+    {{128, 0, PORT_1(ENTRY(16, 0), ENTRY(16, 255), 0, 0)}, {"last-id", {11, 0, 0, 1, 0, 0, 0, 0}, 0xFFF8}},
+    {{0, 0, PORTS_3_4_5(ENTRY(32, 0), ENTRY(64, 511), ENTRY(128, 31), 0)}, {"every-decoder", {0, 0, 255, 255, 0, 0, 0, 0}, 0}},
+    {{0, 0, PORTS_3_4_5(ENTRY(32, 0), ENTRY(128, 33), ENTRY(128, 32), 0)},
+     {"every-decoder", {13, 0, 5, 255, 0, 0, 0, 0}, 0x0500}},
+    {{0, 0, PORT_5(ENTRY(48, 15), ENTRY(48, 16), 0, 0)}, {"every-decoder", {14, 0, 5, 255, 0, 0, 0, 0}, 0x200000000}},
+};
+
+static const struct trial_walk trial_walks[] = {
+    {{0, 0, PORT_3_APART}, {"shared-granule", FPB_ADDRESS, FPB_HOST, 0xE0500000, {0, 1, 2, 255, 3, 0, 0, 0}, {0, 1, 2}}},
+    {{0, 0, PORT_3_APART}, {"shared-granule", FPB_ADDRESS, FPB_HOST, 0xE0600000, {0, 1, 3, 255, 3, 0, 0, 0}, {0, 1, 3}}},
+    {{0, 0, PORT_3_APART}, {"shared-granule", FPB_ADDRESS, FPB_HOST, 0xE0700000, {0, 4, 1, 255, 2, 0, 0, 0}, {0, 1}}},
+    {{0, 0, PORT_3_APART}, {"shared-granule", FPB_ADDRESS, 3, 0xE0500000, {0, 1, 2, 255, 2, 0, 0, 0}, {3, 2}}},
+    {{0, 0, PORT_3_APART}, {"shared-granule", FPB_ADDRESS, 3, 0xE0600000, {0, 4, 3, 255, 0, 0, 0, 0}, UNUSED}},
+    {{APART, PORT_3(ENTRY(16, 5), 0, 0, 0)},
+     {"shared-granule", FPB_ADDRESS, FPB_HOST, 0xE05FFFFF, {0, 5, 2, 3, 2, 0, 0, 0}, {0, 1}}},
+    {{0, 0, PORT_3_APART}, {"shared-granule", FPB_CONFIG, FPB_HOST, 0x0305, {0, 1, 2, 255, 3, 5, 0, 0}, {0, 1, 2}}},
+    {{0, 0, PORT_1(0, 0, 0, 0)}, {"last-id", FPB_ID, FPB_HOST, 0xFFFF, {0, 1, 0, 255, 1, 0, 0, 0}, {0}}},
+    {{128, 0, PORT_1(ENTRY(16, 0), 0, 0, 0)}, {"last-id", FPB_ID, FPB_HOST, 0xFFFF, {0, 5, 0, 1, 0, 0, 0, 0}, UNUSED}},
+    {{0, 0, PORT_5(ENTRY(16, 32), 0, 0, 0)}, {"every-decoder", FPB_ID, 3, 0x0500, {0, 1, 5, 255, 2, 0, 0, 0}, {3, 5}}},
+    {{0, 0, PORT_5(0, 0, 0, 0)}, {"every-decoder", FPB_ID, 3, 0x0500, {0, 3, 255, 255, 3, 0, 0, 0}, {3, 2, 0}}},
+    {{0, 0, PORT_3_APART}, {"shared-granule", 3, FPB_HOST, 0x0300, {16, 0, 255, 255, 0, 0, 0, 0}, UNUSED}},
+    {{0, 0, PORT_3_APART}, {"shared-granule", FPB_ID, FPB_HOST, 0x10000, {16, 0, 255, 255, 0, 0, 0, 0}, UNUSED}},
+    {{0, 0, PORT_3_APART}, {"shared-granule", FPB_ID, 1, 0x0300, {16, 0, 255, 255, 0, 0, 0, 0}, UNUSED}},
+    {{0, 0, PORT_3_APART}, {"shared-granule", FPB_ID, 258, 0x0300, {16, 0, 255, 255, 0, 0, 0, 0}, UNUSED}},
+};
+
+/* What is not right in a patch over shared-granule, which has 4 ports; 2 and 3 have 32 bytes of vectors each, 0 and 1 have none. */
+#define NONE {NO_ROW, NO_ROW, NO_ROW}
+#define ONE(port, offset) {{port, offset}, NO_ROW, NO_ROW}
+#define TWO(port, offset, next, next_offset) {{port, offset}, {next, next_offset}, NO_ROW}
+
+static const struct refused_patch refused_patches[] = {
+    {30, {0, 0, 0, NONE, NO_ENTRY}},
+    {30, {0, 0, 8, NONE, NO_ENTRY}},
+    {30, {1, 0, 1, NONE, NO_ENTRY}},
+    {30, {7, 0, 7, NONE, NO_ENTRY}},
+    {30, {8, 0, 0, NONE, NO_ENTRY}},
+    {30, {8, 0, 7, NONE, NO_ENTRY}},
+    {30, {8, 0, 9, NONE, NO_ENTRY}},
+    {30, {48, 1, 47, ONE(3, 16), NO_ENTRY}},
+    {30, {48, 1, 49, ONE(3, 16), NO_ENTRY}},
+    {30, {48, 1, 0x01000030, ONE(3, 16), NO_ENTRY}},
+    {30, {65544, 0, 8, NONE, NO_ENTRY}},
+    {30, {8, 1, 8, NONE, NO_ENTRY}},
+    {30, {15, 1, 15, ONE(0, 16), NO_ENTRY}},
+    {30, {23, 2, 23, TWO(0, 24, 1, 24), NO_ENTRY}},
+    {30, {8, 0x1FFFFFFF, 8, NONE, NO_ENTRY}},
+    {30, {8, 0x20000000, 8, NONE, NO_ENTRY}},
+    {30, {48, 0x20000001, 48, ONE(3, 16), NO_ENTRY}},
+    {30, {48, 0xFFFFFFFF, 48, ONE(3, 16), NO_ENTRY}},
+    {30, {48, 0x01000001, 48, ONE(3, 16), NO_ENTRY}},
+    {30, {70000, 8750, 70000, NONE, NO_ENTRY}},
+    {31, {88, 2, 88, TWO(2, 24, 2, 56), NO_ENTRY}},
+    {31, {24, 2, 24, TWO(0, 24, 0, 24), NO_ENTRY}},
+    {31, {88, 2, 88, TWO(3, 24, 2, 56), NO_ENTRY}},
+    {31, {56, 2, 56, TWO(3, 24, 0, 56), NO_ENTRY}},
+    {31, {64, 3, 64, {{0, 32}, {3, 32}, {1, 64}}, NO_ENTRY}},
+    {31, {48, 1, 48, ONE(4, 16), NO_ENTRY}},
+    {31, {16, 1, 16, ONE(64, 16), NO_ENTRY}},
+    {31, {48, 1, 48, ONE(255, 16), NO_ENTRY}},
+    {31, {48, 1, 48, ONE(0x103, 16), NO_ENTRY}},
+    {31, {48, 1, 48, ONE(0x10003, 16), NO_ENTRY}},
+    {31, {48, 1, 48, ONE(0xFFFFFFFF, 16), NO_ENTRY}},
+    {31, {88, 2, 88, TWO(2, 24, 4, 56), NO_ENTRY}},
+    {31, {56, 2, 56, TWO(2, 24, 0xFFFFFFFF, 56), NO_ENTRY}},
+    {31, {56, 2, 56, TWO(0xFFFFFFFF, 24, 0, 24), NO_ENTRY}},
+    {31, {87, 2, 87, TWO(2, 0, 2, 99), NO_ENTRY}},
+    {31, {65544, 8192, 65544, NONE, NO_ENTRY}},
+    {31, {70000, 8749, 70000, NONE, NO_ENTRY}},
+    {32, {9, 0, 9, NONE, NO_ENTRY}},
+    {32, {16, 0, 16, NONE, NO_ENTRY}},
+    {32, {65544, 0, 65544, NONE, NO_ENTRY}},
+    {32, {70000, 0, 70000, NONE, NO_ENTRY}},
+    {32, {48, 1, 48, ONE(3, 0), NO_ENTRY}},
+    {32, {48, 1, 48, ONE(3, 15), NO_ENTRY}},
+    {32, {48, 1, 48, ONE(3, 17), NO_ENTRY}},
+    {32, {48, 1, 48, ONE(3, 0x10010), NO_ENTRY}},
+    {32, {48, 1, 48, ONE(3, 0x80000010), NO_ENTRY}},
+    {32, {88, 2, 88, TWO(2, 56, 3, 24), NO_ENTRY}},
+    {32, {88, 2, 88, TWO(2, 24, 3, 24), NO_ENTRY}},
+    {32, {88, 2, 88, TWO(2, 24, 3, 55), NO_ENTRY}},
+    {32, {88, 2, 88, TWO(2, 24, 3, 57), NO_ENTRY}},
+    {32, {89, 2, 89, TWO(2, 24, 3, 57), NO_ENTRY}},
+    {32, {16, 1, 16, ONE(3, 16), NO_ENTRY}},
+    {32, {47, 1, 47, ONE(3, 16), NO_ENTRY}},
+    {32, {49, 1, 49, ONE(3, 16), NO_ENTRY}},
+    {32, {80, 1, 80, ONE(3, 16), NO_ENTRY}},
+    {32, {65584, 1, 65584, ONE(3, 16), NO_ENTRY}},
+    {32, {16, 1, 16, ONE(0, 8), NO_ENTRY}},
+    {32, {17, 1, 17, ONE(0, 16), NO_ENTRY}},
+    {32, {48, 1, 48, ONE(1, 16), NO_ENTRY}},
+};
+
+static const struct patch_case empty_patch = {8, 0, 8, NONE, NO_ENTRY};
+
 static const size_t lengths[] = {0, 39, 40, 41, 100};
 
 #define COUNT(of) (sizeof(of) / sizeof((of)[0]))
@@ -121,6 +281,63 @@ static void load(const char *folder, const char *sample)
     memcpy(picture_before, picture, sizeof picture);
 }
 
+/* Little-endian, 4 bytes. */
+static void put_u32(uint8_t *at, uint32_t number)
+{
+    int i;
+    for (i = 0; i < 4; i++) {
+        at[i] = (uint8_t)(number >> 8 * i & 255);
+    }
+}
+
+static uint32_t u32_at(const uint8_t *at)
+{
+    return at[0] | (uint32_t)at[1] << 8 | (uint32_t)at[2] << 16 | (uint32_t)at[3] << 24;
+}
+
+/* Lends bytes of the room for a patch, from `shift` on. */
+static void lend_patch(size_t shift, size_t length)
+{
+    patch = patch_room + shift;
+    patch_len = length;
+    memcpy(patch_before, patch_room, sizeof patch_room);
+}
+
+/* Lays a patch into the room; what is behind it there is not lent, and filled with a byte. */
+static void lay_patch(const struct patch_case *c, size_t shift, uint8_t behind)
+{
+    uint8_t *bytes = patch_room + shift, head[8 + 8 * ROWS];
+    size_t i;
+    put_u32(head, c->count);
+    put_u32(head + 4, c->total);
+    for (i = 0; i < ROWS; i++) {
+        put_u32(head + 8 + 8 * i, c->rows[i].port);
+        put_u32(head + 12 + 8 * i, c->rows[i].offset);
+    }
+    memset(patch_room, behind, sizeof patch_room);
+    memset(bytes, 0, c->length);
+    memcpy(bytes, head, c->length < sizeof head ? c->length : sizeof head);
+    for (i = 0; i < sizeof c->entries / sizeof c->entries[0]; i++) {
+        if (c->entries[i] != 0) {
+            bytes[c->entries[i] / 8] |= (uint8_t)(1 << c->entries[i] % 8);
+        }
+    }
+    lend_patch(shift, c->length);
+}
+
+/* The check and the walk, of a picture alone or on trial. */
+static uint32_t ask_check(int on_trial, uint8_t *answer, size_t length)
+{
+    return on_trial ? fpb_trial_check(picture, picture_len, patch, patch_len, answer, length)
+                    : fpb_check(picture, picture_len, answer, length);
+}
+
+static uint32_t ask_walk(int on_trial, uint8_t *answer, size_t length, const struct walk_case *c)
+{
+    return on_trial ? fpb_trial_walk(picture, picture_len, patch, patch_len, answer, length, c->kind, c->start, c->target)
+                    : fpb_walk(picture, picture_len, answer, length, c->kind, c->start, c->target);
+}
+
 /* The 40 bytes wanted at the front of a buffer that is otherwise kept, or all of it kept where it is too short. */
 static void want(uint8_t *wanted, size_t length, const uint8_t *head, const uint8_t *places)
 {
@@ -136,9 +353,10 @@ static void compare(const char *sample, size_t length, uint32_t number, const ui
     expect(number == (length < FPB_ANSWER_LENGTH ? (uint32_t)FPB_BUFFER : wanted[FPB_AT_NUMBER]), "the number", sample, length);
     expect(memcmp(answer, wanted, ROOM) == 0, "the bytes", sample, length);
     expect(memcmp(picture, picture_before, sizeof picture) == 0, "the picture unchanged", sample, length);
+    expect(memcmp(patch_room, patch_before, sizeof patch_room) == 0, "the patch unchanged", sample, length);
 }
 
-static void try_check(const struct check_case *c)
+static void try_check(const struct check_case *c, int on_trial)
 {
     uint8_t answer[ROOM], wanted[ROOM], places[FPB_PLACES];
     size_t i, k;
@@ -149,14 +367,14 @@ static void try_check(const struct check_case *c)
     for (k = 0; k < COUNT(lengths); k++) {
         memset(answer, KEPT, sizeof answer);
         want(wanted, lengths[k], c->head, places);
-        compare(c->sample, lengths[k], fpb_check(picture, picture_len, answer, lengths[k]), answer, wanted);
+        compare(c->sample, lengths[k], ask_check(on_trial, answer, lengths[k]), answer, wanted);
     }
     if (c->least_target != 0) {
         expect(fpb_least_target(answer) == c->least_target, "the least target read back", c->sample, ROOM);
     }
 }
 
-static void try_walk(const struct walk_case *c)
+static void try_walk(const struct walk_case *c, int on_trial)
 {
     uint8_t answer[ROOM], wanted[ROOM], places[FPB_PLACES];
     size_t i, k, crossings = c->head[FPB_AT_CROSSINGS];
@@ -165,11 +383,104 @@ static void try_walk(const struct walk_case *c)
     for (k = 0; k < COUNT(lengths); k++) {
         memset(answer, KEPT, sizeof answer);
         want(wanted, lengths[k], c->head, places);
-        compare(c->sample, lengths[k], fpb_walk(picture, picture_len, answer, lengths[k], c->kind, c->start, c->target), answer,
-                wanted);
+        compare(c->sample, lengths[k], ask_walk(on_trial, answer, lengths[k], c), answer, wanted);
     }
     for (i = 0; i < crossings; i++) {
         expect(fpb_crossed(answer, i) == c->path[i], "a port crossed read back", c->sample, ROOM);
+    }
+}
+
+/* Whether a number comes before those of a patch. */
+static int before_patch(uint8_t number)
+{
+    return number >= FPB_LENGTH && number <= FPB_VECTORS;
+}
+
+/* What is said of a patch that does not read. */
+static void name_refused(uint8_t *head, uint8_t number)
+{
+    static const uint8_t nothing_named[] = {0, 0, 255, 255, 0, 0, 0, 0};
+    memcpy(head, nothing_named, sizeof nothing_named);
+    head[FPB_AT_NUMBER] = number;
+}
+
+/* A check of the picture alone; on trial with a patch of no port it is the same, and with no patch at all 30, after 1 to 10. */
+static void try_check_alone(const struct check_case *c)
+{
+    struct check_case without = *c;
+    try_check(c, 0);
+    lay_patch(&empty_patch, 0, KEPT);
+    try_check(c, 1);
+    patch = NULL;
+    patch_len = 0;
+    if (!before_patch(c->head[FPB_AT_NUMBER])) {
+        name_refused(without.head, FPB_PATCH_HEADER);
+        without.least_target = 0;
+    }
+    try_check(&without, 1);
+}
+
+static void try_walk_alone(const struct walk_case *c)
+{
+    struct walk_case without = *c;
+    try_walk(c, 0);
+    lay_patch(&empty_patch, 0, KEPT);
+    try_walk(c, 1);
+    patch = NULL;
+    patch_len = 0;
+    if (!before_patch(c->head[FPB_AT_NUMBER])) {
+        name_refused(without.head, FPB_PATCH_HEADER);
+    }
+    try_walk(&without, 1);
+}
+
+/* Loads a sample, and changes a byte of it unless that is byte 0. */
+static void load_changed(const char *folder, const char *sample, size_t at, uint8_t byte)
+{
+    load(folder, sample);
+    if (at != 0) {
+        picture[at] = byte;
+    }
+    memcpy(picture_before, picture, sizeof picture);
+}
+
+/* Patches that read, at addresses of every alignment. */
+static void try_trial_checks(const char *folder)
+{
+    size_t i;
+    for (i = 0; i < SHIFTS * COUNT(trial_checks); i++) {
+        const struct trial_check *c = &trial_checks[i / SHIFTS];
+        load_changed(folder, c->check.sample, c->trial.at, c->trial.byte);
+        lay_patch(&c->trial.patch, i % SHIFTS, KEPT);
+        try_check(&c->check, 1);
+    }
+}
+
+static void try_trial_walks(const char *folder)
+{
+    size_t i;
+    for (i = 0; i < SHIFTS * COUNT(trial_walks); i++) {
+        const struct trial_walk *c = &trial_walks[i / SHIFTS];
+        load_changed(folder, c->walk.sample, c->trial.at, c->trial.byte);
+        lay_patch(&c->trial.patch, i % SHIFTS, KEPT);
+        try_walk(&c->walk, 1);
+    }
+}
+
+/* Patches that do not read, for the check, and for a walk that would be number 16; whatever lies behind them. */
+static void try_refused_patches(const char *folder)
+{
+    struct check_case check = {"shared-granule", UNUSED, 0};
+    struct walk_case walk = {"shared-granule", 9, 9, 0, UNUSED, UNUSED};
+    size_t i;
+    load(folder, check.sample);
+    for (i = 0; i < 2 * COUNT(refused_patches); i++) {
+        const struct refused_patch *c = &refused_patches[i / 2];
+        name_refused(check.head, c->number);
+        name_refused(walk.head, c->number);
+        lay_patch(&c->patch, i % SHIFTS, i % 2 == 0 ? KEPT : 0);
+        try_check(&check, 1);
+        try_walk(&walk, 1);
     }
 }
 
@@ -178,10 +489,136 @@ static void try_ari(const char *folder)
 {
     static const struct walk_case ari = {
         "switch", FPB_CONFIG, FPB_HOST, 0x0308, {0, 1, 2, 255, 3, 8, 0, 0}, {0, 1, 2}};
-    load(folder, ari.sample);
-    picture[16 + 56 * 2 + 24] = 1 << 5;
+    load_changed(folder, ari.sample, 16 + 56 * 2 + 24, 1 << 5);
+    try_walk_alone(&ari);
+}
+
+/* Lays a patch whose ports are those of a set, bit p for port p; each has `bytes` of vectors, with no entry set. */
+static void lay_set(uint64_t set, size_t bytes)
+{
+    size_t port, count = 0, row = 0;
+    for (port = 0; port < 64; port++) {
+        count += set >> port & 1;
+    }
+    memset(patch_room, 0, sizeof patch_room);
+    put_u32(patch_room, (uint32_t)count);
+    put_u32(patch_room + 4, (uint32_t)(8 + (8 + bytes) * count));
+    for (port = 0; port < 64; port++) {
+        if ((set >> port & 1) != 0) {
+            put_u32(patch_room + 8 + 8 * row, (uint32_t)port);
+            put_u32(patch_room + 12 + 8 * row, (uint32_t)(8 + 8 * count + bytes * row));
+            row++;
+        }
+    }
+    lend_patch(0, 8 + (8 + bytes) * count);
+}
+
+/* Sets some entries of the patch, by a seed. */
+static void set_entries(uint32_t seed)
+{
+    size_t i;
+    for (i = 8 + 8 * u32_at(patch); i < patch_len; i++) {
+        seed = seed * 1103515245 + 12345;
+        if (seed >> 28 == 0) {
+            patch_room[i] = (uint8_t)(1 << (seed >> 16 & 7));
+        }
+    }
+    lend_patch(0, patch_len);
+}
+
+/* Puts the vectors of such a patch into the picture itself. */
+static void put_in(size_t bytes)
+{
+    size_t row, count = u32_at(patch);
+    for (row = 0; row < count; row++) {
+        size_t port = u32_at(patch + 8 + 8 * row);
+        memcpy(picture + u32_at(picture + 16 + 56 * port + 52), patch + u32_at(patch + 12 + 8 * row), bytes);
+    }
+}
+
+/* That check and walks on trial answer as those of the picture with the vectors put in, which is taken back afterwards. */
+static void try_put_in(const char *what, size_t bytes, uint64_t target)
+{
+    struct walk_case walk = {what, FPB_ADDRESS, FPB_HOST, target, UNUSED, UNUSED};
+    uint8_t tried[3][FPB_ANSWER_LENGTH], alone[3][FPB_ANSWER_LENGTH];
+    int on_trial;
+    for (on_trial = 1; on_trial >= 0; on_trial--) {
+        uint8_t(*answers)[FPB_ANSWER_LENGTH] = on_trial ? tried : alone;
+        if (!on_trial) {
+            put_in(bytes);
+        }
+        ask_check(on_trial, answers[0], FPB_ANSWER_LENGTH);
+        walk.start = FPB_HOST;
+        ask_walk(on_trial, answers[1], FPB_ANSWER_LENGTH, &walk);
+        walk.start = 2;
+        ask_walk(on_trial, answers[2], FPB_ANSWER_LENGTH, &walk);
+    }
+    expect(memcmp(tried, alone, sizeof tried) == 0, "as with the vectors put in", what, FPB_ANSWER_LENGTH);
+    memcpy(picture, picture_before, sizeof picture);
+}
+
+/* Every set of the eight ports with vectors. */
+static void try_sets(const char *folder)
+{
+    uint64_t set;
+    load(folder, "far-apart-at-the-top");
+    for (set = 0; set < 256; set++) {
+        lay_set(set << 2, 32);
+        set_entries((uint32_t)set);
+        try_put_in("a set of ports", 32, 0xFFFFFFFFFFFFFFFF);
+        try_put_in("a set of ports", 32, 0xFFFFFFF800000000);
+    }
+}
+
+/* A sound picture of root ports with `bytes` of vectors each, no entry set, and RID decoding enabled. */
+static void build_roots(uint32_t count, uint32_t capabilities, uint32_t rid_control_1, uint32_t bytes)
+{
+    uint32_t vectors_at = 16 + 56 * count, port;
+    memset(picture, 0, sizeof picture);
+    picture_len = vectors_at + bytes * count;
+    put_u32(picture, 1 | count << 16);
+    put_u32(picture + 4, (uint32_t)picture_len);
+    put_u32(picture + 8, 16);
+    put_u32(picture + 12, vectors_at);
+    for (port = 0; port < count; port++) {
+        uint8_t *record = picture + 16 + 56 * port;
+        put_u32(record, 255 << 8 | 8 * port << 16);
+        put_u32(record + 28, capabilities);
+        put_u32(record + 32, rid_control_1);
+        put_u32(record + 52, vectors_at + bytes * port);
+    }
     memcpy(picture_before, picture, sizeof picture);
-    try_walk(&ari);
+}
+
+/* That two ports with one entry set are found, at ID 0700h, where all ports of the picture or these two stand in the patch. */
+static void try_pair(uint64_t all, uint32_t bytes, uint32_t entry, uint32_t port, uint32_t other)
+{
+    uint64_t two = (uint64_t)1 << port | (uint64_t)1 << other;
+    uint8_t answer[FPB_ANSWER_LENGTH];
+    int whole;
+    for (whole = 0; whole < 2; whole++) {
+        lay_set(whole ? all : two, bytes);
+        patch_room[u32_at(patch + 12 + (whole ? 8 * port : 0)) + entry / 8] |= (uint8_t)(1 << entry % 8);
+        patch_room[u32_at(patch + 12 + (whole ? 8 * other : 8)) + entry / 8] |= (uint8_t)(1 << entry % 8);
+        expect(fpb_trial_check(picture, picture_len, patch, patch_len, answer, sizeof answer) == FPB_SHARED_ID &&
+                   answer[FPB_AT_PORT] == port && answer[FPB_AT_SECOND_PORT] == other && fpb_least_target(answer) == 0x0700,
+               "a pair", "root ports", sizeof answer);
+    }
+}
+
+/* Some pairs of 64 ports with the smallest vectors, and of 25 with all of the largest: a patch of 64,208 bytes. */
+static void try_pairs(void)
+{
+    uint32_t port;
+    build_roots(64, 1, 1 | 5 << 4, 32);
+    for (port = 0; port < 63; port++) {
+        try_pair(0xFFFFFFFFFFFFFFFF, 32, 7, port, port + 1);
+        try_pair(0xFFFFFFFFFFFFFFFF, 32, 7, port, 63);
+    }
+    build_roots(25, 7 | 5 << 8 | 4 << 16 | 5 << 24, 1, 2560);
+    for (port = 0; port < 24; port++) {
+        try_pair(0x1FFFFFF, 2560, 0x0700 / 8, port, port + 1);
+    }
 }
 
 /* No picture at all, the longest that may be and one byte more; and no buffer at all, which is found out before anything else. */
@@ -199,6 +636,26 @@ static void try_nothing(void)
     expect(fpb_walk(NULL, 0, NULL, 0, 9, 9, 9) == FPB_BUFFER, "walk", "nothing", 0);
 }
 
+/* The same with a patch that has no bytes. */
+static void try_nothing_on_trial(void)
+{
+    uint8_t answer[FPB_ANSWER_LENGTH];
+    size_t room = sizeof answer;
+    expect(fpb_trial_check(NULL, 0, NULL, 0, answer, room) == FPB_LENGTH, "trial check", "no picture", room);
+    expect(fpb_trial_walk(NULL, 0, NULL, 0, answer, room, 9, 9, 9) == FPB_LENGTH, "trial walk", "no picture", room);
+    expect(fpb_trial_check(picture, 65537, NULL, 0, answer, room) == FPB_LENGTH, "trial check", "65,537 zeros", room);
+    expect(fpb_trial_check(picture, 65536, NULL, 0, NULL, 0) == FPB_BUFFER, "trial check", "no buffer", 0);
+    expect(fpb_trial_walk(picture, 65536, NULL, 0, NULL, 0, 9, 9, 9) == FPB_BUFFER, "trial walk", "no buffer", 0);
+    expect(fpb_trial_check(NULL, 0, NULL, 0, NULL, 0) == FPB_BUFFER, "trial check", "nothing", 0);
+    expect(fpb_trial_walk(NULL, 0, NULL, 0, NULL, 0, 9, 9, 9) == FPB_BUFFER, "trial walk", "nothing", 0);
+}
+
+/* 18 to 29 are no numbers. */
+static int is_number(uint32_t number)
+{
+    return number <= FPB_BUFFER || (number >= FPB_PATCH_HEADER && number <= FPB_PATCH_VECTORS);
+}
+
 /* The file has a line for each number, in order, and no other. */
 static void try_texts(const char *name)
 {
@@ -209,9 +666,9 @@ static void try_texts(const char *name)
         printf("%s cannot be opened\n", name);
         return;
     }
-    for (number = 0; number <= FPB_BUFFER; number++) {
+    for (number = 0; number <= FPB_PATCH_VECTORS; number++) {
         snprintf(wanted, sizeof wanted, "%u %s\n", number, fpb_number_text(number));
-        if (!counted(fgets(line, sizeof line, file) != NULL && strcmp(line, wanted) == 0)) {
+        if (is_number(number) && !counted(fgets(line, sizeof line, file) != NULL && strcmp(line, wanted) == 0)) {
             printf("%s has not the line %s", name, wanted);
         }
     }
@@ -223,7 +680,7 @@ static void try_texts(const char *name)
 
 static void try_unknown_numbers(void)
 {
-    static const uint32_t unknown[] = {FPB_BUFFER + 1, 255, 4294967295U};
+    static const uint32_t unknown[] = {FPB_BUFFER + 1, FPB_PATCH_HEADER - 1, FPB_PATCH_VECTORS + 1, 255, 4294967295U};
     size_t i;
     for (i = 0; i < COUNT(unknown); i++) {
         if (!counted(strcmp(fpb_number_text(unknown[i]), "not a number of this judge") == 0)) {
@@ -250,14 +707,20 @@ int main(int argc, char **argv)
     }
     for (i = 0; i < COUNT(checks); i++) {
         load(argv[1], checks[i].sample);
-        try_check(&checks[i]);
+        try_check_alone(&checks[i]);
     }
     for (i = 0; i < COUNT(walks); i++) {
         load(argv[1], walks[i].sample);
-        try_walk(&walks[i]);
+        try_walk_alone(&walks[i]);
     }
     try_ari(argv[1]);
+    try_trial_checks(argv[1]);
+    try_trial_walks(argv[1]);
+    try_refused_patches(argv[1]);
+    try_sets(argv[1]);
+    try_pairs();
     try_nothing();
+    try_nothing_on_trial();
     try_texts(argv[2]);
     try_unknown_numbers();
     try_version();
