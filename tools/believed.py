@@ -18,7 +18,11 @@ from definitions import CRATES, ROOT, cited, closure, contracts, offered, overlo
 
 # The public calls by crate: those that must have a contract; the crates whose calls bear the mark #[no_mangle]; and those that
 # count once they have a contract, where None is every `pub` function of the crate.
-CALLS = {"picture": ["read"], "judge": ["claim", "convert", "walk", "check"]}
+CALLS = {
+    "picture": ["read"],
+    "patches": ["read"],
+    "judge": ["claim", "convert", "walk", "check", "trial_check", "trial_walk", "trial_part"],
+}
 EXPORTING = ["fiswalend"]
 LATER = {"texts": ["report_text", "refused_text", "walk_text"], "reports": None}
 

@@ -1,6 +1,6 @@
 #!/usr/bin/env bash
 # bench.sh [--no-counts]: the proved calls as native machine code, against the same algorithm in plain Rust (bench/), side by
-# side in one run: times, instruction counts by callgrind, and growth. Prints tables; docs/BENCHMARKS.md has those of one run.
+# side in one run: times, instruction counts by callgrind, trials, and growth. Prints tables; docs/BENCHMARKS.md has those of one run.
 set -eu
 case "$*" in
     "" | --no-counts) ;;
@@ -58,6 +58,8 @@ processor=$(LC_ALL=C lscpu 2>/dev/null | sed -n 's/^Model name: *//p' | head -n 
 echo "$(uname -sm), $(nproc) cores, $processor; $(rustc --version)"
 echo
 "$bench" times "${pictures[@]}"
+echo
+"$bench" trials "${pictures[@]}"
 echo
 "$bench" growth
 [ "${1:-}" != --no-counts ] || exit 0

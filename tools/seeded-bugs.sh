@@ -1,7 +1,7 @@
 #!/usr/bin/env bash
 # seeded-bugs.sh [SEED [PICTURES]]: small wrong edits of the second program, one at a time in a copy, each held against the
-# answers of the proved judge to the same batches, or the texts of the product's programs for the same pictures. Prints a row for
-# each; the status is 0 only where every edit is found.
+# answers of the proved judge to the same batches, or the texts of the product's programs for the same pictures and trials. Prints
+# a row for each; the status is 0 only where every edit is found.
 set -u
 case "${1:-}" in -h | --help) sed -n '2,/^set /s/^# //p' "$0"; exit ;; esac
 cd "$(dirname "$(readlink -f "$0")")/.." || exit 2
@@ -53,12 +53,22 @@ bug() {
     echo "| $1 | $2 | $verdict | $((${hand/stopped/1} + ${random/stopped/1})) | $hand | $random |"
 }
 
-# texts SECOND: the sentence and the drawing of each picture by a second program, one line each
+# text PICTURE COMMAND..: what it prints of a picture, as one line
+text() {
+    local picture=$1
+    shift
+    "$@" <"$picture" 2>&1 | tr '\n' /
+    echo
+}
+
+# texts RUN: the sentence and the drawing of each picture, and the sentence of each trial, by a second program or run_built
 texts() {
     local picture
     for picture in "$work"/pictures/*; do
-        for command in explain tree; do "$1" "$command" <"$picture" 2>&1 | tr '\n' /; echo; done
+        text "$picture" "$1" explain
+        text "$picture" "$1" tree
     done
+    for picture in "$work"/patches/*.picture; do text "$picture" "$1" explain "${picture%.picture}.patch"; done
 }
 
 # text_bug FILE WORDS OLD NEW: one that texts must show
@@ -101,15 +111,34 @@ bug check.rs "number 15 asks for a claim only" '!= Conversion::Type0' '== Conver
 bug judge.rs "IDs cut to 16 bits" 'u16::try_from(target).map_err(|_| Refusal::bare(16))' 'Ok(target as u16)'
 bug judge.rs "starts cut to 8 bits" 'let port = start as usize;' 'let port = start as u8 as usize;'
 bug judge.rs "IDs printed without leading zeros" '{id:04x}' '{id:x}'
+bug patch.rs "31 of the first port before 30" 'judge_header(patch)?;' 'if patch.len() >= 12 && word(patch, 8) as usize >= records.len() { return Err(Fault::Beyond { port: word(patch, 8) as usize, count: records.len() }); } judge_header(patch)?;'
+bug patch.rs "32 at a port before 31 at a later one" 'judge_ports(&entries, records.len())?;' 'for entry in entries.iter().take(1) { if entry.offset != 8 + 8 * entries.len() { return Err(Fault::Ends { at: entry.offset }); } } judge_ports(&entries, records.len())?;'
+bug patch.rs "an empty patch changes nothing" 'judge_header(patch)?;' 'if patch.is_empty() { return Ok(Vec::new()); } judge_header(patch)?;'
+bug patch.rs "8 x count cut to 32 bits, and such a count refused by 31" 'judge_header(patch)?;' 'if patch.len() >= 8 && word(patch, 4) as usize == patch.len() && word(patch, 0) > 0xFFFF && word(patch, 0).wrapping_mul(8) as usize + 8 <= patch.len() { return Err(Fault::Behind { port: 0, before: 0 }); } judge_header(patch)?;'
+bug patch.rs "count 0 refused" 'if length < 8 {' 'if length < 16 {'
+bug patch.rs "a total below the length accepted" 'total as u64 != length' 'total as u64 > length'
+bug patch.rs "a port twice in a row accepted" 'if port <= before' 'if port < before'
+bug patch.rs "only the first two ports need rise" 'judge_ports(&entries, records.len())?;' 'judge_ports(&entries[..entries.len().min(2)], records.len())?; for entry in entries.chunks(1) { judge_ports(entry, records.len())?; }'
+bug patch.rs "the first port beyond the count passed over" 'judge_ports(&entries, records.len())?;' 'let entries: Vec<Entry> = entries.into_iter().filter(|entry| entry.port != records.len()).collect(); judge_ports(&entries, records.len())?;'
+bug patch.rs "port numbers cut to 8 bits" 'word(patch, 8 + 8 * index) as usize' 'word(patch, 8 + 8 * index) as u8 as usize'
+bug patch.rs "the end of the vectors not looked at" 'if end != total {' 'if end > total {'
+bug patch.rs "the running offset goes on without High" 'let mut end = 8' 'if entries.iter().any(|entry| entry.offset + length_of_all(&records[entry.port]) > total) { return Err(Fault::Ends { at: total }); } let length_of_all = |record: &Record| record.vector_lengths()[..2].iter().sum::<usize>(); let mut end = 8'
+bug patch.rs "an offset of a port without vectors not looked at" 'if offset != end {' 'if offset != end && (length_of_all(&records[port]) > 0 || offset > total) {'
+bug patch.rs "the vectors stay as they are in the picture" '&patch[entry.offset..entry.offset + length]' '&picture[to..to + length]'
+bug patch.rs "put in at the first port's place" 'let to = record.vectors_start()' 'let to = records[0].vectors_start()'
+bug patch.rs "only the first port is put in" 'for entry in entries {' 'for entry in entries.into_iter().take(1) {'
+bug patch.rs "the last byte of a port's vectors is not put in" 'let length = length_of_all(record);' 'let length = length_of_all(record).saturating_sub(1);'
+bug patch.rs "a trial's 16 before 30" 'let (entries, records) = (read_patch' 'read(picture)?; if port as usize >= records_of(picture).len() || mechanism > 2 { return Err(Refusal::bare(16)); } let (entries, records) = (read_patch'
+bug patch.rs "a port without bytes lies in the picture" 'entry.port == port as usize' 'entry.port == port as usize && length_of_all(record) > 0'
+bug patch.rs "a part begins at the port's first vector" 'at: start + before' 'at: start + before * 0'
+bug judge.rs "a refused patch is left out" 'Err(refusal) => Judge { reading: Err(refusal), checked: OnceCell::new() }' 'Err(_) => Judge::new(picture)'
 
 second/target/release/second pictures "$seed" 150 "$work/pictures" || exit 1
-for picture in "$work"/pictures/*; do
-    run_built explain <"$picture" | tr '\n' /; echo
-    run_built tree <"$picture" | tr '\n' /; echo
-done >"$work/texts.judge"
+second/target/release/second patches "$seed" 60 "$work/patches" || exit 1
+texts run_built >"$work/texts.judge"
 texts second/target/release/second | cmp -s - "$work/texts.judge" || { echo "the texts differ without an edit"; exit 1; }
 echo
-echo "$(wc -l <"$work/texts.judge") texts of 150 pictures (seed $seed)"
+echo "$(wc -l <"$work/texts.judge") texts of 150 pictures and 60 trials (seed $seed)"
 echo "| file | what is wrong | found | texts that differ |"
 echo "|---|---|---|---|"
 text_bug words.rs "device numbers in decimal" '{:02x}:{:02x}.{}' '{:02x}:{:02}.{}'
@@ -122,5 +151,27 @@ text_bug tree.rs "ARI said of any port" 'if port.ari {' 'if !port.ari {'
 text_bug explain.rs "the root port left out of the tree above" 'Some(Kind::Root) => text,' 'Some(Kind::Root) => String::new(),'
 text_bug explain.rs "a first child called a later one" 'records[..port].iter().any' 'records[..=port].iter().any'
 text_bug explain.rs "codes of a vector that is not supported" '} else if !setting.codes_are_good()' '} if !setting.codes_are_good()'
+text_bug explain_trial.rs "count and total exchanged in 30" 'let (count, total)' 'let (total, count)'
+text_bug explain_trial.rs "the longest length that 30 tells not told" 'length > LONGEST_TOLD' 'length >= LONGEST_TOLD'
+text_bug explain_trial.rs "31 tells the last port of the picture for their count" 'counted(count, "port"))' 'counted(count - 1, "port"))'
+text_bug patch.rs "the wrong port of a pair in 31" 'Err(Fault::Behind { port, before })' 'Err(Fault::Behind { port: before, before: port })'
+text_bug patch.rs "the running offset and the offset exchanged in 32" 'at: offset, end_before: end' 'at: end, end_before: offset'
+text_bug patch.rs "32 tells where the patch ends for where the vectors do" 'Fault::Ends { at: end }' 'Fault::Ends { at: total }'
+# the edit of the next row: a parent that does not claim the ID without the patch is said to answer Unsupported Request
+unpatched_conversion='Ok(patched) => {
+    let (old, text) = (crate::judge::Judge::new(picture), explain(&patched));
+    let parent_claims = |port: u8| {
+        let ports = &old.reading().unwrap().ports;
+        ports[ports[port as usize].parent.unwrap()].claims_id(ports[port as usize].own_id)
+    };
+    match crate::judge::Judge::new(&patched).check() {
+        Err(found) if found.number == 15 && !parent_claims(found.ports[0]) => {
+            text.replace("passes configuration requests for it on as Type 1", "answers configuration requests for it with Unsupported Request")
+        }
+        _ => text,
+    }
+}'
+text_bug explain_trial.rs "the unpatched picture's conversion said in 15" 'Ok(patched) => explain(&patched)' "$unpatched_conversion"
+text_bug explain_trial.rs "the unpatched picture's sentence" 'Ok(patched) => explain(&patched)' 'Ok(patched) => crate::judge::Judge::new(&patched).report() + explain(picture).lines().last().unwrap() + "\n"'
 echo "$found of $bugs found"
 [ "$found" -eq "$bugs" ]

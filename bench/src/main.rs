@@ -1,6 +1,7 @@
 //! The clock: the proved calls and the port's, side by side in one run.
 //!
 //!     bench times NAME PICTURE ..        a row for each picture and kind of call
+//!     bench trials NAME PICTURE ..       the trial check against the check
 //!     bench growth                       check of pictures that grow in ports, and in entries
 //!     bench picture PORTS CODE           one of these pictures on standard output
 //!     bench count SIDE KIND PICTURE N    all calls of a kind N times over, to be counted by callgrind
@@ -9,6 +10,7 @@ mod calls;
 mod growing;
 mod plain;
 mod proved;
+mod trials;
 
 use std::hint::black_box;
 use std::io::Write;
@@ -72,6 +74,18 @@ fn times(pictures: &[String]) {
     }
 }
 
+fn trials(pictures: &[String]) {
+    println!("| picture | check | trial, every other port | ratio | trial, all ports | ratio |");
+    println!("|---|---|---|---|---|---|");
+    for pair in pictures.chunks_exact(2) {
+        let picture = read(&pair[1]);
+        let best = trials::best_of(&picture, &[trials::patch(&picture, 2), trials::patch(&picture, 1)]);
+        let (half, all) = (best[1] / best[0], best[2] / best[0]);
+        let [check, other, every] = [0, 1, 2].map(|i| shown(best[i]));
+        println!("| {} | {check} | {other} | {half:.2} | {every} | {all:.2} |", pair[0]);
+    }
+}
+
 fn growth() {
     println!("| ports | entries of each | check, proved | plain Rust | ratio |");
     println!("|---|---|---|---|---|");
@@ -104,6 +118,7 @@ fn main() -> ExitCode {
     let words: Vec<String> = std::env::args().skip(1).collect();
     match words.iter().map(String::as_str).collect::<Vec<_>>().as_slice() {
         ["times", ..] => times(&words[1..]),
+        ["trials", ..] => trials(&words[1..]),
         ["growth"] => growth(),
         ["picture", ports, code] => picture(ports, code),
         ["count", side, kind, picture, n] => count(side, kind, picture, n),

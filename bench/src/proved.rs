@@ -11,6 +11,14 @@ extern "C" {
         start: u32,
         target: u64,
     ) -> u32;
+    fn fpb_trial_check(
+        picture: *const u8,
+        length: usize,
+        patch: *const u8,
+        patch_length: usize,
+        answer: *mut u8,
+        room: usize,
+    ) -> u32;
     fn timing_read(picture: *const u8, length: usize) -> u32;
     fn timing_claim_id(picture: *const u8, length: usize, port: u32, id: u16) -> u32;
     fn timing_claim_address(picture: *const u8, length: usize, port: u32, address: u64) -> u32;
@@ -18,6 +26,12 @@ extern "C" {
 
 pub fn check(picture: &[u8], answer: &mut [u8; 40]) -> u32 {
     unsafe { fpb_check(picture.as_ptr(), picture.len(), answer.as_mut_ptr(), 40) }
+}
+
+pub fn trial_check(picture: &[u8], patch: &[u8], answer: &mut [u8; 40]) -> u32 {
+    unsafe {
+        fpb_trial_check(picture.as_ptr(), picture.len(), patch.as_ptr(), patch.len(), answer.as_mut_ptr(), 40)
+    }
 }
 
 pub fn walk(picture: &[u8], answer: &mut [u8; 40], kind: u32, start: u32, target: u64) -> u32 {

@@ -2,7 +2,9 @@
 use crate::ids::PortNo;
 use crate::picture::Culprit;
 use crate::registers::port_at;
+use crate::registers::sizes_of;
 use crate::registers::vector_bytes;
+use crate::registers::vectors_start;
 use crate::registers::Fpb;
 use crate::registers::Mechanism;
 
@@ -41,8 +43,7 @@ fn offset_in(f: Fpb, m: Mechanism) -> u64 {
 
 // A port's vector, as a part of the picture.
 pub fn vector(s: &[u8], p: PortNo, m: Mechanism) -> &[u8] {
-    let port = port_at(s, p);
-    let f = port.fpb;
-    let at = port.vectors_at as u64 + offset_in(f, m);
+    let f = sizes_of(s, p);
+    let at = vectors_start(s, p) as u64 + offset_in(f, m);
     crate::lent::part(s, at as usize, vector_bytes(f, m) as usize)
 }

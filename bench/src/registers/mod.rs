@@ -103,3 +103,20 @@ pub fn port_at(s: &[u8], p: PortNo) -> Port {
         vectors_at: u32_at(s, r + 52),
     }
 }
+
+// The FPB registers of port p as far as its vectors' sizes hang on them: Capabilities. The others are left 0.
+pub fn sizes_of(s: &[u8], p: PortNo) -> Fpb {
+    Fpb {
+        capabilities: u32_at(s, 16 + 56 * p.0 as usize + 28),
+        rid_control_1: 0,
+        rid_control_2: 0,
+        mem_low_control: 0,
+        mem_high_control_1: 0,
+        mem_high_control_2: 0,
+    }
+}
+
+// Where the vectors of port p start.
+pub fn vectors_start(s: &[u8], p: PortNo) -> u32 {
+    u32_at(s, 16 + 56 * p.0 as usize + 52)
+}
