@@ -131,9 +131,9 @@ ask() {
     consult "$@"
 }
 
-# ready NAME: has the program built, and opens descriptor 8, on which a part of a command says that it failed, by a word: bash can
-# lose the status of a process substitution where there are several, one in a thousand
-faults=''
+# ready NAME: has the program built, and opens descriptor 8, on which the parts of a command tell how they ended, each by a word:
+# bash can lose the status of a process substitution where there are several, one in a thousand
+told=''
 ready() {
     has_program "$1"
     exec 8<> <(:)
@@ -141,27 +141,28 @@ ready() {
 
 # alongside COMMAND..: runs it on this process's standard input, gives its status, and ends it where this process is ended
 alongside() {
-    trap 'kill "${!-}" 2>/dev/null; exit 1' TERM
+    trap 'kill "${!-}" 2>/dev/null; exit 1' INT TERM HUP QUIT
     "$@" <&0 &
     wait $!
 }
 
-# read_part WORD BYTES: prints as many bytes of standard input, or as there are; the fault WORD is that it cannot be read, for which
-# `head' has the status 1
+# read_part WORD BYTES: prints as many bytes of standard input, or as there are; tells WORD if it cannot be read. 141 is no failure:
+# nobody wants the rest.
 read_part() {
     local status=0
     alongside head -c "$2" 2>/dev/null || status=$?
-    [ "$status" != 1 ] || echo "$1" >&8
+    case $status in 0 | 141) ;; *) echo "$1" >&8 ;; esac
 }
 
-# consult NAME ARGS..: what the program says of the picture, in `answer`, and what has failed, in `faults`; one byte more than a
-# picture may have is read. What reads it, the program, and the `helpers` that a command has started end with this shell.
+# consult NAME ARGS..: what the program says of the picture, in `answer`, and what the parts told, in `told`; one byte more than a
+# picture may have is read. What reads it, the program, and the `helpers` that a command has started end with this shell. Only a
+# program that ended well has answered.
 helpers=''
 consult() {
     local reader program signal
     exec 4< <(read_part picture 65537 <&3)
     reader=$!
-    exec 5< <(alongside become "$@" <&4 3<&- 4<&- || echo program >&8)
+    exec 5< <(alongside become "$@" <&4 3<&- 4<&- && echo answered >&8)
     program=$!
     exec 3<&- 4<&-
     for signal in INT TERM HUP; do
@@ -172,9 +173,9 @@ consult() {
     answer=${answer%$'\n'}
     trap - INT TERM HUP
     echo . >&8
-    IFS= read -r -d . faults <&8
-    [[ $faults != *program* ]] || no_answer "$1"
-    [[ $faults != *picture* ]] || unreadable "cannot be read"
+    IFS= read -r -d . told <&8
+    [[ $told == *answered* ]] || no_answer "$1"
+    [[ $told != *picture* ]] || unreadable "cannot be read"
 }
 
 # no_answer NAME: ends the command where its program has not said what it must

@@ -23,7 +23,7 @@ run() {
     helpers=$!
     exec 7<&-
     consult "$program" /dev/fd/6
-    [[ $faults != *patch* ]] || patch_unreadable "cannot be read"
+    [[ $told != *patch* ]] || patch_unreadable "cannot be read"
     case $answer in
     'ports '*$'\nclear' | 'ports '*$'\nclear\n'*) answered 0 ;;
     'refused '*) answered 1 ;;

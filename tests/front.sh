@@ -337,26 +337,30 @@ ended() {
 children() { awk -v parents=" $* " 'index(parents, " " $4 " ") { printf "%s ", $1 }' /proc/[0-9]*/stat 2>/dev/null; }
 lives() { [ -r "/proc/$1/stat" ] && [ "$(awk '{ print $3 }' "/proc/$1/stat")" != Z ]; }
 
-# that what waits for the picture ends with fpb, too: two processes that fpb has started, and one for each of them
+# waiting STATUS SIGNAL [-]: that what waits for the picture ends with fpb, too, which has started two processes and these one each;
+# the signal goes to fpb alone or, with -, to its process group, as from the keyboard
 waiting() {
     local pid try left first status
+    rm -f "$work/fifo"
     mkfifo "$work/fifo"
     exec 8<>"$work/fifo"
+    set -m
     ./fpb report "$work/fifo" >/dev/null 2>&1 8<&- &
     pid=$!
+    set +m
     for ((try = 0; try < 300; try++)); do
         first=$(children "$pid")
         read -ra left <<<"$first $(children "$first")"
         [ ${#left[@]} -lt 4 ] || break
         sleep 0.1
     done
-    kill -TERM "$pid"
+    kill -s "$2" -- "${3:-}$pid"
     wait "$pid" 2>/dev/null
     status=$?
-    counts "$([ "$status" -eq 143 ] || echo "fpb ended by TERM has the status $status")"
+    counts "$([ "$status" -eq "$1" ] || echo "fpb ended by $2 has the status $status")"
     sleep 0.5
     counts "$([ ${#left[@]} -eq 4 ] || echo "fpb has started ${#left[@]} processes where it waits for a picture, and not 4")"
-    counts "$(for pid in "${left[@]}"; do lives "$pid" && echo "process $pid goes on after fpb was ended"; done)"
+    counts "$(for pid in "${left[@]}"; do lives "$pid" && echo "process $pid goes on after fpb was ended by $2"; done)"
     exec 8<&-
 }
 
@@ -375,6 +379,19 @@ half_answers() {
         expect 2 '' 'fpb trial: the program explain did not answer/' "$1" trial --explain samples/waiting-card.fits.patch "$one"
     done
     rm "$2"
+}
+
+# broken_answers FPB EMULATOR: that a program which does not end well has not answered, whatever it has printed
+broken_answers() {
+    local end
+    # shellcheck disable=SC2016 # the stand-in's own process
+    for end in 'exit 3' 'kill -KILL $$'; do
+        printf '#!/bin/sh\ncat >/dev/null\nprintf "ports 1\\nclear\\n"\n%s\n' "$end" >"$2"
+        chmod +x "$2"
+        expect 2 '' '*fpb report: the program report did not answer/' "$1" report "$one"
+        expect 2 '' '*fpb trial: the program trial did not answer/' "$1" trial samples/waiting-card.fits.patch "$one"
+        rm "$2"
+    done
 }
 
 installed() {
@@ -407,6 +424,7 @@ installed() {
     fi
     for page in man1/fpb.1 man3/fiswalend.3; do expect 0 '.TH *' '' grep -m 1 '^\.TH ' "$work/stage/moved/share/man/$page"; done
     half_answers "$bin" "$work/stage/moved/libexec/fiswalend/x86-64/qemu-x86_64"
+    broken_answers "$bin" "$work/stage/moved/libexec/fiswalend/x86-64/qemu-x86_64"
     echo nonsense >"$work/stage/moved/libexec/fiswalend/tree"
     expect 2 '' '*fpb tree: the program tree did not answer/' "$bin" tree "$one"
     rm "$work/stage/moved/libexec/fiswalend/tree"
@@ -433,7 +451,11 @@ read_only
 two_at_once
 listened
 ended
-waiting
+waiting 143 TERM
+waiting 130 INT
+waiting 130 INT -
+waiting 129 HUP -
+waiting 2 QUIT -
 installed
 echo "$passed passed, $failed failed"
 [ "$failed" -eq 0 ]
