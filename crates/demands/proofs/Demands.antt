@@ -58,13 +58,13 @@ use Rattle.judge.proofs.Walks.{walk-only, within-start}
 use Rattle.picture.proofs.WhatReads.{sane-read}
 use Rattle.patches.specs.Patched.{patched}
 use Rattle.patches.specs.Reading.{readingWith}
-use Rattle.fiswalend.specs.Calls.{tooShort, returned, written, WalkLeaves}
+use Rattle.fiswalend.specs.Calls.{CheckCall, tooShort, returned, written, WalkLeaves}
 use Rattle.fiswalend.specs.Found.{findingBytes}
 use Rattle.fiswalend.specs.Walked.{walkBytes}
 use Rattle.judge.specs.Ends.{outcomeNumber}
 use Rattle.fiswalend.proofs.Forty.{under-40}
 use Rattle.fiswalend.proofs.WalkCalls.{leaves-only}
-use Rattle.demands.specs.Demands.{Demand1, OneBuffer, CheckCall, Demand1Buffer, Names, WalksIn, Demand2, Demand3, Overlap, FailsExactly, OverlapExactly}
+use Rattle.demands.specs.Demands.{Demand1, OneBuffer, Demand1Buffer, Names, WalksIn, Demand2, Demand3, Overlap, FailsExactly, OverlapExactly}
 use Rattle.demands.proofs.Numbers.{reading-in-table, check-numbered, claim-numbered, convert-numbered, walk-numbered, never-zero}
 
 pub demand-1 : (s : List ℕ) → Demand1 s

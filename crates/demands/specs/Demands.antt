@@ -48,9 +48,6 @@ pub record OneBuffer (before : List ℕ) (Call : ℕ → List ℕ → Type 0) : 
   pub answers : (number : ℕ) × (after : List ℕ) × Call number after
   pub only : (m n : ℕ) (x y : List ℕ) → Call m x → Call n y → (m ≡ n) × (x ≡ y)
 
-abbrev pub CheckCall : CheckAnswer → List ℕ → ℕ → List ℕ → Type 0
-CheckCall a before number after = (number ≡ returned before (checkNumber a)) × (after ≡ written before (findingBytes (checkFinding a)))
-
 pub record Demand1Buffer (s before : List ℕ) : Type 0 where
   pub check : OneBuffer before (CheckCall (checkAnswer s) before)
   pub walk : (kind start target : ℕ) → OneBuffer before (WalkCall s kind start target before)

@@ -6,10 +6,13 @@ use mathlib.Core.List.{List, _++_}
 use mathlib.Core.Path.{_≡_}
 use lib.Dec.{ltb}
 use lib.ListN.{length, drop}
+use Rattle.judge.specs.declared.CheckAnswer.{CheckAnswer}
 use Rattle.judge.specs.declared.WalkAnswer.{WalkAnswer}
+use Rattle.judge.specs.Checking.{checkFinding, checkNumber}
 use Rattle.judge.specs.Ends.{outcomeNumber}
 use Rattle.judge.specs.Trying.{TrialGives}
 use Rattle.judge.specs.Walking.{WalkGives}
+use Rattle.fiswalend.specs.Found.{findingBytes}
 use Rattle.fiswalend.specs.Walked.{walkBytes}
 
 -- 17: "answer buffer under 40 bytes"
@@ -22,6 +25,10 @@ returned before number = cond (tooShort before) 17 number
 
 unfoldable pub written : List ℕ → List ℕ → List ℕ
 written before forty = cond (tooShort before) before (forty ++ drop 40 before)
+
+-- a check's number, and the buffer after it, for the buffer before it and the answer that it gives
+abbrev pub CheckCall : CheckAnswer → List ℕ → ℕ → List ℕ → Type 0
+CheckCall a before number after = (number ≡ returned before (checkNumber a)) × (after ≡ written before (findingBytes (checkFinding a)))
 
 -- a walk's number, and the buffer after it, for the buffer before it, where `Gives` says which answer is given
 abbrev pub WalkLeaves : Bool → (WalkAnswer → Type 0) → List ℕ → ℕ → List ℕ → Type 0

@@ -36,11 +36,10 @@ pub use Rattle.judge.specs.declared.ClaimAnswer.the-variants.{Claimed}
 pub use Rattle.judge.specs.declared.ConvertAnswer.the-variants.{Converted}
 pub use Rattle.judge.specs.declared.WalkAnswer.{WalkAnswer}
 pub use Rattle.judge.specs.declared.Outcome.the-variants.{Ended}
-pub use Rattle.judge.specs.Checking.{checkAnswer, checkFinding, checkNumber}
+pub use Rattle.judge.specs.Checking.{checkAnswer, checkNumber}
 pub use Rattle.judge.specs.Claiming.{claimAnswer, claimNumber}
 pub use Rattle.judge.specs.Converting.{convertAnswer, convertNumber}
 pub use Rattle.judge.specs.Ends.{outcomeNumber}
 pub use Rattle.judge.specs.Trying.{trialCheck, TrialGives, trialPart, partNumber}
 pub use Rattle.judge.specs.Walking.{packetOf, WalkGives}
-pub use Rattle.fiswalend.specs.Calls.{returned, written, WalkCall, TrialWalkCall}
-pub use Rattle.fiswalend.specs.Found.{findingBytes}
+pub use Rattle.fiswalend.specs.Calls.{CheckCall, WalkCall, TrialWalkCall}
