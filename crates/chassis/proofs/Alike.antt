@@ -11,11 +11,12 @@ use Rattle.ids.specs.declared.Target.{Target}
 use Rattle.ids.specs.declared.Target.the-variants.{Id, Addr}
 use Rattle.chassis.specs.declared.Fault.{Fault}
 use Rattle.chassis.specs.declared.Fault.the-variants.{Shared, Stray}
+use Rattle.chassis.specs.declared.Hold.{Hold}
 use Rattle.chassis.specs.declared.Verdict.{Verdict}
 use Rattle.chassis.specs.declared.Verdict.the-variants.{Clear, Shared as Found·Shared, Stray as Found·Stray, Lost}
 use Rattle.chassis.specs.Chassis.{Chassis, isOwn, holds}
 use Rattle.chassis.specs.Check.{clash, clashesWith, straysAt, ownIdLost, atFault, faulty, verdictOf}
-use Rattle.chassis.specs.Findings.{Lowest, LeastAt, NoneWith, Says}
+use Rattle.chassis.specs.Findings.{Lowest, LeastAt, NoneWith, ItsHold, Says}
 use Rattle.chassis.specs.Tree.{rootPort, anyBelow}
 use Rattle.chassis.proofs.AlikeTrees.{AlikeTrees, Agree, any-agree}
 use Rattle.chassis.proofs.Tree.{Sane, other-parent}
@@ -26,6 +27,7 @@ pub record Alike (c d : Chassis) : Type 0 where
   pub trees : AlikeTrees (c .tree) (d .tree)
   pub ownId : (p : ℕ) → p < c .tree .count → c .ownId p ≡ d .ownId p
   pub ari : (p : ℕ) → p < c .tree .count → c .ari p ≡ d .ari p
+  pub decoders : (p : ℕ) → p < c .tree .count → (t : Target) → c .decoders p t ≡ d .decoders p t
   pub claims : (p : ℕ) → p < c .tree .count → (t : Target) → c .claims p t ≡ d .claims p t
   pub conversion : (p : ℕ) → p < c .tree .count → (t : Target) → c .conversion p t ≡ d .conversion p t
 
@@ -47,6 +49,11 @@ module _ (c d : Chassis) (alike : Alike c d) where
   pub holds-alike : (t : Target) → Agree (c .tree .count) (holds c t) (holds d t)
   unfolding holds
   holds-alike t p l = ap₂ _||_ (own-alike t p l) (alike .claims p l t)
+
+  -- by the same decoders
+  hold-alike : (t : Target) (h : Hold) → h .port .0 < c .tree .count → ItsHold c t h → ItsHold d t h
+  hold-alike t h l its =
+      its ∙ (λ i. record { port = h .port; own = own-alike t (h .port .0) l i; decoders = alike .decoders (h .port .0) l t i })
 
   clash-alike : (t : Target) (p : ℕ) → p < c .tree .count → Agree (c .tree .count) (clash c t p) (clash d t p)
   unfolding clash
@@ -103,9 +110,14 @@ module _ (c d : Chassis) (alike : Alike c d) (sane : Sane (c .tree)) where
   none-alike fault none t l = sym (faulty-alike fault t) ∙ none t l
 
   says-alike : (v : Verdict) → Says c v → Says d v
-  says-alike (Found·Shared t p q) (least, second) =
-      (least-alike least, lowest-agree (alike .trees .count) (clash-alike c d alike t (p .0) (least .port .below)) second)
-  says-alike (Found·Stray t p) (none, least) = (none-alike Shared none, least-alike least)
+  says-alike (Found·Shared t h k) (least, second, first-hold, second-hold) = (
+    least-alike least,
+    lowest-agree (alike .trees .count) (clash-alike c d alike t (h .port .0) (least .port .below)) second,
+    hold-alike c d alike t h (least .port .below) first-hold,
+    hold-alike c d alike t k (second .below) second-hold,
+  )
+  says-alike (Found·Stray t h) (none, least, hold) =
+      (none-alike Shared none, least-alike least, hold-alike c d alike t h (least .port .below) hold)
   says-alike (Lost p) (none, lowest) = (λ fault. none-alike fault (none fault), lowest-agree (alike .trees .count) lost-alike lowest)
   says-alike Clear (none, kept) =
       (λ fault. none-alike fault (none fault), λ p l. sym (lost-alike p (rw (alike .trees .count) l)) ∙ kept p (rw (alike .trees .count) l))

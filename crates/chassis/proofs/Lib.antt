@@ -11,6 +11,7 @@ pub mod Ways
 pub mod Homeward
 pub mod Demand3
 pub mod Verdicts
+pub mod NamedHold
 pub mod AlikeTrees
 pub mod Alike
 pub mod AlikeWalks

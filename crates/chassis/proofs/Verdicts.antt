@@ -3,7 +3,7 @@
 use Prim.Native.Nat.{ℕ, _<_, _^_, zero-le}
 use mathlib.Core.Bool.{Bool, true, false}
 use mathlib.Core.Logic.{_↔_}
-use mathlib.Core.Path.{_≡_, refl, ap, subst}
+use mathlib.Core.Path.{_≡_, refl, sym, _∙_, ap, subst}
 use native.Mathlib.Decide.{decLt}
 use native.Mathlib.Omega.{arith}
 use Rattle.ids.specs.declared.PortNo.{PortNo}
@@ -17,11 +17,12 @@ use Rattle.least.specs.Least.{firstIn}
 use Rattle.least.proofs.Laws.{LeastAt as FirstAt, Least, of-range}
 use Rattle.chassis.specs.declared.Fault.{Fault}
 use Rattle.chassis.specs.declared.Fault.the-variants.{Shared, Stray}
+use Rattle.chassis.specs.declared.Hold.{Hold}
 use Rattle.chassis.specs.declared.Verdict.{Verdict}
 use Rattle.chassis.specs.declared.Verdict.the-variants.{Clear, Shared as Found·Shared, Stray as Found·Stray, Lost}
-use Rattle.chassis.specs.Chassis.{Chassis, targetIn}
+use Rattle.chassis.specs.Chassis.{Chassis, holdOf, targetIn}
 use Rattle.chassis.specs.Check.{clash, clashesWith, ownIdLost, atFault, faulty, leastTarget, found, lowestPort, firstOfPair, verdictAt, atLeast, lostAt, rowOf, orNext, verdictOf}
-use Rattle.chassis.specs.Findings.{Lowest, Earlier, LeastAt, NoneWith, Says}
+use Rattle.chassis.specs.Findings.{Lowest, Earlier, LeastAt, NoneWith, ItsHold, Says}
 use Rattle.chassis.specs.OneEnd.{InRange}
 use Rattle.chassis.specs.Tree.{anyBelow}
 use Rattle.chassis.proofs.Bools.{never-both-values}
@@ -74,7 +75,7 @@ module _ (c : Chassis) (fault : Fault) where
 module _ (c : Chassis) where
   shared-at : (t : Target) → LeastAt Shared c t (firstOfPair c t) → Says c (verdictAt c Shared t)
   unfolding clashesWith
-  shared-at t least = (least, lowest-found c (clash c t (firstOfPair c t .0)) (least .port .passes))
+  shared-at t least = (least, lowest-found c (clash c t (firstOfPair c t .0)) (least .port .passes), refl, refl)
 
   neither : NoneWith Shared c → NoneWith Stray c → (fault : Fault) → NoneWith fault c
   neither unshared unstrayed Shared = unshared
@@ -101,8 +102,8 @@ module _ (c : Chassis) where
           (orNext (atLeast c Stray Addresses e) (orNext (lostAt (firstIn (ownIdLost c) 0 (c .tree .count))) Clear)))))
       go (At n) b d e ea eb ed ee = shared-at (targetIn Ids n) (least-id c Shared n ea)
       go Nothing (At n) d e ea eb ed ee = shared-at (targetIn Addresses n) (least-address c Shared n ea eb)
-      go Nothing Nothing (At n) e ea eb ed ee = (none-with c Shared ea eb, least-id c Stray n ed)
-      go Nothing Nothing Nothing (At n) ea eb ed ee = (none-with c Shared ea eb, least-address c Stray n ed ee)
+      go Nothing Nothing (At n) e ea eb ed ee = (none-with c Shared ea eb, least-id c Stray n ed, refl)
+      go Nothing Nothing Nothing (At n) ea eb ed ee = (none-with c Shared ea eb, least-address c Stray n ed ee, refl)
       go Nothing Nothing Nothing Nothing ea eb ed ee =
           lost-at (firstIn (ownIdLost c) 0 (c .tree .count)) (neither (none-with c Shared ea eb) (none-with c Stray ed ee))
           (of-range (ownIdLost c) 0 (c .tree .count))
@@ -135,16 +136,22 @@ module _ (c : Chassis) where
   not-lowest : {A : Type 0} {p : PortNo} → Lowest (ownIdLost c) (c .tree .count) p → ((q : ℕ) → q < c .tree .count → ownIdLost c q ≡ false) → A
   not-lowest {p = p} x kept = never-both-values _ (x .passes) (kept (p .0) (x .below))
 
+  -- the hold of one port on one target is one
+  hold-one : (t u : Target) (h k : Hold) → t ≡ u → h .port ≡ k .port → ItsHold c t h → ItsHold c u k → h ≡ k
+  hold-one t u h k same port x y = x ∙ (λ i. holdOf c (same i) (port i .0)) ∙ sym y
+
   says-one : (v w : Verdict) → Says c v → Says c w → v ≡ w
   says-one (Found·Shared t p q) (Found·Shared u r s) x y =
       let same = least-one (x .0) (y .0) in
-      let second : q ≡ s = lowest-one (x .1) (rw (same .0, same .1) (y .1)) in
-      cc (same .0, same .1)
+      let second : q .port ≡ s .port = lowest-one (x .1) (rw (same .0, same .1) (y .1)) in
+      cc (same .0, hold-one t u p r (same .0) (same .1) (x .2) (y .2), hold-one t u q s (same .0) second (x .3) (y .3))
   says-one (Found·Shared t p q) (Found·Stray u r) x y = not-least (x .0) (y .0)
   says-one (Found·Shared t p q) (Lost r) x y = not-least (x .0) (y .0 Shared)
   says-one (Found·Shared t p q) Clear x y = not-least (x .0) (y .0 Shared)
   says-one (Found·Stray t p) (Found·Shared u r s) x y = not-least (y .0) (x .0)
-  says-one (Found·Stray t p) (Found·Stray u r) x y = let same = least-one (x .1) (y .1) in cc (same .0, same .1)
+  says-one (Found·Stray t p) (Found·Stray u r) x y =
+      let same = least-one (x .1) (y .1) in
+      cc (same .0, hold-one t u p r (same .0) (same .1) (x .2) (y .2))
   says-one (Found·Stray t p) (Lost r) x y = not-least (x .1) (y .0 Stray)
   says-one (Found·Stray t p) Clear x y = not-least (x .1) (y .0 Stray)
   says-one (Lost p) (Found·Shared u r s) x y = not-least (y .0) (x .0 Shared)

@@ -9,6 +9,8 @@ use Rattle.ids.specs.declared.Target.the-variants.{Id, Addr}
 use Rattle.ids.specs.declared.Space.{Space}
 use Rattle.ids.specs.declared.Space.the-variants.{Ids, Addresses}
 use Rattle.chassis.specs.declared.Conversion.{Conversion}
+use Rattle.chassis.specs.declared.Decoders.{Decoders}
+use Rattle.chassis.specs.declared.Hold.{Hold}
 use Rattle.chassis.specs.declared.Holders.{Holders}
 use Rattle.chassis.specs.declared.Holders.the-variants.{Nobody, Only, Both}
 use Rattle.chassis.specs.Tree.{Tree, standsAt}
@@ -17,6 +19,7 @@ pub record Chassis : Type 0 where
   pub tree : Tree
   pub ownId : ℕ → ℕ
   pub ari : ℕ → Bool
+  pub decoders : ℕ → Target → Decoders
   pub claims : ℕ → Target → Bool
   pub conversion : ℕ → Target → Conversion
 
@@ -36,6 +39,18 @@ isOwn c (Addr a) p = false
 
 unfoldable pub holds : Chassis → Target → ℕ → Bool
 holds c t p = isOwn c t p || c .claims p t
+
+-- 02, Item 3: "Everything that asked yes or no now means "at least one""
+unfoldable pub atLeastOne : Decoders → Bool
+atLeastOne d = d .bus || d .rid || d .mem || d .pref || d .low || d .high
+
+-- "name all decoders that claim the target"; "`own` is no decoder and no claim; it only says why the port holds the ID"
+abbrev pub holdOf : Chassis → Target → ℕ → Hold
+holdOf c t p = record { port = portNo p; own = isOwn c t p; decoders = c .decoders p t }
+
+-- the port holds the target if either is so
+unfoldable pub isHeld : Hold → Bool
+isHeld h = h .own || atLeastOne (h .decoders)
 
 -- the two lowest of the ports below n that pass, where p is tried after those below it
 unfoldable pub withPort : Holders → ℕ → Bool → Holders

@@ -56,9 +56,10 @@ lowestPort c test = found (firstIn test 0 (c .tree .count))
 abbrev pub firstOfPair : Chassis → Target → PortNo
 firstOfPair c t = lowestPort c (clashesWith c t)
 
+-- 02, Item 3: "Numbers 11 to 14 report the decoders for each port named"
 abbrev pub verdictAt : Chassis → Fault → Target → Verdict
-verdictAt c OfShared t = Shared t (firstOfPair c t) (lowestPort c (clash c t (firstOfPair c t .0)))
-verdictAt c OfStray t = Stray t (lowestPort c (straysAt c t))
+verdictAt c OfShared t = Shared t (holdOf c t (firstOfPair c t .0)) (holdOf c t (lowestPort c (clash c t (firstOfPair c t .0)) .0))
+verdictAt c OfStray t = Stray t (holdOf c t (lowestPort c (straysAt c t) .0))
 
 -- what a row of the table finds, `Clear` where it finds nothing
 abbrev pub atLeast : Chassis → Fault → Space → Found → Verdict

@@ -4,7 +4,7 @@ use Prim.Native.Nat.{ℕ}
 use Rattle.ids.specs.declared.Target.{Target}
 use Rattle.ids.specs.declared.Target.the-variants.{Id, Addr}
 use Rattle.chassis.specs.declared.Finding.{Finding}
-use Rattle.chassis.specs.declared.Holders.the-variants.{Nobody, Only, Both}
+use Rattle.chassis.specs.declared.Named.the-variants.{NoPort, Port, Holder, Pair}
 use Rattle.chassis.specs.declared.Shown.the-variants.{NoTarget, Least}
 use Rattle.chassis.specs.declared.Verdict.{Verdict}
 use Rattle.chassis.specs.declared.Verdict.the-variants.{Clear, Shared, Stray, Lost}
@@ -15,7 +15,7 @@ byTarget (Id rid) ofId ofAddress = ofId
 byTarget (Addr a) ofId ofAddress = ofAddress
 
 abbrev pub findingOf : Verdict → Finding
-findingOf Clear = record { number = 0; target = NoTarget; ports = Nobody }
-findingOf (Shared t p q) = record { number = byTarget t 11 12; target = Least t; ports = Both p q }
-findingOf (Stray t p) = record { number = byTarget t 13 14; target = Least t; ports = Only p }
-findingOf (Lost p) = record { number = 15; target = NoTarget; ports = Only p }
+findingOf Clear = record { number = 0; target = NoTarget; ports = NoPort }
+findingOf (Shared t p q) = record { number = byTarget t 11 12; target = Least t; ports = Pair p q }
+findingOf (Stray t p) = record { number = byTarget t 13 14; target = Least t; ports = Holder p }
+findingOf (Lost p) = record { number = 15; target = NoTarget; ports = Port p }

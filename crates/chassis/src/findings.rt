@@ -1,6 +1,6 @@
 // The table's number of each verdict, with the target that it shows and the ports that it names.
 use crate::Finding;
-use crate::Holders;
+use crate::Named;
 use crate::Shown;
 use crate::Verdict;
 use ids::Target;
@@ -25,22 +25,22 @@ pub fn finding_of(v: Verdict) -> Finding
         Verdict::Clear => Finding {
             number: 0,
             target: Shown::NoTarget,
-            ports: Holders::Nobody,
+            ports: Named::NoPort,
         },
         Verdict::Shared(t, p, q) => Finding {
             number: by_target(t, 11, 12),
             target: Shown::Least(t),
-            ports: Holders::Both(p, q),
+            ports: Named::Pair(p, q),
         },
         Verdict::Stray(t, p) => Finding {
             number: by_target(t, 13, 14),
             target: Shown::Least(t),
-            ports: Holders::Only(p),
+            ports: Named::Holder(p),
         },
         Verdict::Lost(p) => Finding {
             number: 15,
             target: Shown::NoTarget,
-            ports: Holders::Only(p),
+            ports: Named::Port(p),
         },
     }
 }

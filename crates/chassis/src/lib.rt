@@ -1,5 +1,6 @@
 // What a packet meets on its way through a chassis, and where it ends. The rules themselves are definitions, in specs/.
 mod findings;
+mod joined;
 
 pub use findings::finding_of;
 use ids::PortNo;
@@ -20,12 +21,28 @@ pub enum Packet {
     Config(Rid),
 }
 
-// No port, one or two: of a place, those that have to do with a target, the two lowest where there are more; of an answer,
-// those that it names.
+// The ports of a place that have to do with a target: none, one, or the two lowest.
 pub enum Holders {
     Nobody,
     Only(PortNo),
     Both(PortNo, PortNo),
+}
+
+// The decoders of a port that claim a target, each by its name.
+pub struct Decoders {
+    pub bus: bool,
+    pub rid: bool,
+    pub mem: bool,
+    pub pref: bool,
+    pub low: bool,
+    pub high: bool,
+}
+
+// What a port has to do with a target: it is the port's own ID, which is no claim, and these decoders claim it.
+pub struct Hold {
+    pub port: PortNo,
+    pub own: bool,
+    pub decoders: Decoders,
 }
 
 // What a port makes of a configuration request that it is about to be crossed by.
@@ -74,11 +91,11 @@ pub enum Row {
 }
 
 // What the check finds: numbers 11 and 12 with the least target and the first pair, 13 and 14 with the least target and
-// the port, 15 with the port.
+// the port, each port with its hold on the target; 15 with the port.
 pub enum Verdict {
     Clear,
-    Shared(Target, PortNo, PortNo),
-    Stray(Target, PortNo),
+    Shared(Target, Hold, Hold),
+    Stray(Target, Hold),
     Lost(PortNo),
 }
 
@@ -88,9 +105,17 @@ pub enum Shown {
     Least(Target),
 }
 
+// The ports that a number of the table names: none, one alone, or one or two by their hold on the target that it shows.
+pub enum Named {
+    NoPort,
+    Port(PortNo),
+    Holder(Hold),
+    Pair(Hold, Hold),
+}
+
 // A number of the table, with the target that it shows and the ports that it names.
 pub struct Finding {
     pub number: u8,
     pub target: Shown,
-    pub ports: Holders,
+    pub ports: Named,
 }

@@ -1,2 +1,3 @@
+pub mod Joined
 pub mod Laws
 pub mod Over

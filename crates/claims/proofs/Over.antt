@@ -18,7 +18,7 @@ use Rattle.patches.proofs.PatchedReads.{port-patched, trees-patched, vector-pat
 use Rattle.patches.proofs.Sought.{own-vector}
 use Rattle.claims.specs.Claims.{chassisWith, chassisOf}
 use Rattle.claims.specs.Conversion.{convertedTarget}
-use Rattle.claims.specs.Decoders.{claimsTarget}
+use Rattle.claims.specs.Decoders.{decodersOf, claimsTarget}
 use Rattle.claims.specs.Over.{chassisOver}
 
 pub unpatched : (s none : List ℕ) → none ≡ [] → chassisOver s none ≡ chassisOf s
@@ -41,6 +41,7 @@ module _ (s patch : List ℕ) (h : Header) (a : Accepted s patch h) where
         trees = trees-patched s patch h a;
         ownId = λ p l. ap (λ (x : Port). x .«own_id» .0) (same-port p l);
         ari = λ p l. ap withAri (same-port p l);
+        decoders = λ p l t i. decodersOf (same-port p l i) (same-vectors p l i) t;
         claims = λ p l t i. claimsTarget (same-port p l i) (same-vectors p l i) t;
         conversion = λ p l t i. convertedTarget (same-port p l i) (same-vectors p l i) t;
       }

@@ -7,7 +7,7 @@ use Rattle.registers.specs.Record.{portAt}
 use Rattle.registers.specs.Rules.{withAri}
 use Rattle.trees.specs.Trees.{treeOf}
 use Rattle.picture.specs.Layout.{vectorOf}
-use Rattle.claims.specs.Decoders.{claimsTarget}
+use Rattle.claims.specs.Decoders.{decodersOf, claimsTarget}
 use Rattle.claims.specs.Conversion.{convertedTarget}
 
 -- with these vectors
@@ -17,6 +17,7 @@ chassisWith s vector =
       tree = treeOf s;
       ownId = λ p. portAt s p .«own_id» .0;
       ari = λ p. withAri (portAt s p);
+      decoders = λ p. decodersOf (portAt s p) (vector p);
       claims = λ p. claimsTarget (portAt s p) (vector p);
       conversion = λ p. convertedTarget (portAt s p) (vector p);
     }

@@ -1,11 +1,13 @@
 -- 01, "What a port claims": each decoder by its name, of one port's registers and vectors.
 use Prim.Native.Nat.{ℕ, _+_, _-_, _*_, _^_, _%_}
-use mathlib.Core.Bool.{Bool, not, cond, _&&_, _||_}
+use mathlib.Core.Bool.{Bool, false, not, cond, _&&_}
 use mathlib.Core.List.{List}
 use lib.Dec.{eqb, leb, ltb}
 use Rattle.ids.specs.declared.Target.{Target}
 use Rattle.ids.specs.declared.Target.the-variants.{Id, Addr}
 use Rattle.ids.specs.Ids.{busOf}
+use Rattle.chassis.specs.declared.Decoders.{Decoders}
+use Rattle.chassis.specs.Chassis.{atLeastOne}
 use Rattle.vectors.specs.Vectors.{hits}
 use Rattle.registers.specs.declared.Bridge.{Bridge}
 use Rattle.registers.specs.declared.Fpb.{Fpb}
@@ -59,18 +61,39 @@ highClaims f v a = leb (2 ^ 32) a && vectorClaims f High v a
 unfoldable pub memorySpaceEnabled : Bridge → Bool
 memorySpaceEnabled b = eqb (field (b .command) 1 1) 1
 
--- "These are all the decoders." A port claims what at least one of them claims, addresses "only with Memory Space Enable set".
-unfoldable pub claimsId : Port → (Mechanism → List ℕ) → ℕ → Bool
-claimsId p vector rid = busClaims (p .bridge) rid || vectorClaims (p .fpb) Rid (vector Rid) rid
+abbrev pub noDecoders : Decoders
+noDecoders = record { bus = false; rid = false; mem = false; pref = false; low = false; high = false }
 
-unfoldable pub claimsAddress : Port → (Mechanism → List ℕ) → ℕ → Bool
-claimsAddress p vector a =
-    memorySpaceEnabled (p .bridge)
-    && (memoryClaims (p .bridge) a
-    || prefetchableClaims (p .bridge) a
-    || lowClaims (p .fpb) (vector Low) a
-    || highClaims (p .fpb) (vector High) a)
+-- "These are all the decoders." 02, Item 3: "The claim answer must name all decoders that claim the target"
+unfoldable pub idDecoders : Port → (Mechanism → List ℕ) → ℕ → Decoders
+idDecoders p vector rid =
+    record {
+      bus = busClaims (p .bridge) rid;
+      rid = vectorClaims (p .fpb) Rid (vector Rid) rid;
+      mem = false;
+      pref = false;
+      low = false;
+      high = false;
+    }
 
+-- addresses "only with Memory Space Enable set"
+unfoldable pub addressDecoders : Port → (Mechanism → List ℕ) → ℕ → Decoders
+addressDecoders p vector a =
+    cond (memorySpaceEnabled (p .bridge))
+    (record {
+      bus = false;
+      rid = false;
+      mem = memoryClaims (p .bridge) a;
+      pref = prefetchableClaims (p .bridge) a;
+      low = lowClaims (p .fpb) (vector Low) a;
+      high = highClaims (p .fpb) (vector High) a;
+    })
+    noDecoders
+
+abbrev pub decodersOf : Port → (Mechanism → List ℕ) → Target → Decoders
+decodersOf p vector (Id rid) = idDecoders p vector (rid .0)
+decodersOf p vector (Addr a) = addressDecoders p vector a
+
+-- "Everything that asked yes or no now means "at least one"."
 abbrev pub claimsTarget : Port → (Mechanism → List ℕ) → Target → Bool
-claimsTarget p vector (Id rid) = claimsId p vector (rid .0)
-claimsTarget p vector (Addr a) = claimsAddress p vector a
+claimsTarget p vector t = atLeastOne (decodersOf p vector t)

@@ -1,5 +1,5 @@
 // What a port makes of a configuration request that it is about to be crossed by.
-use crate::claims_id;
+use crate::claims;
 use crate::decoders::bus_claims;
 use chassis::Conversion;
 use chassis::UPSTREAM;
@@ -70,7 +70,7 @@ pub fn converted_by_bus(p: Port, rid: Rid) -> Conversion
 fn converted_id<'a>(s: &'a [u8], patch: &'a [u8], p: PortNo, rid: Rid) -> Conversion
     ensures { λ r. ⌜ r ≡ converted (portAt (now (s .entry)) (p .0)) (vectorOver (now (s .entry)) (now (patch .entry)) (p .0)) (rid .0) ⌝ }
 {
-    if claims_id(s, patch, p, rid) {
+    if claims(s, patch, p, Target::Id(rid)) {
         let port = port_at(s, p);
         let f = port.fpb;
         if enabled(f, Mechanism::Rid) & in_secondary_range(port, rid) {

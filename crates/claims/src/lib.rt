@@ -2,6 +2,8 @@
 mod conversions;
 mod decoders;
 
+use chassis::Decoders;
+use chassis::Hold;
 pub use conversions::conversion;
 pub use conversions::converted_by_bus;
 pub use conversions::in_secondary_range;
@@ -24,51 +26,73 @@ use registers::port_at;
 ghost use Prim.Native.Nat.{ℕ};
 ghost use mathlib.Core.List.{List};
 ghost use mathlib.Core.Path.{_≡_};
-ghost use Rattle.chassis.specs.Chassis.{isOwn, holds};
+ghost use Rattle.chassis.specs.Chassis.{isOwn, holds, holdOf};
 ghost use Rattle.registers.specs.Record.{portAt};
 ghost use Rattle.registers.specs.Rules.{withAri};
 ghost use Rattle.patches.specs.Halves.{vectorOver};
-ghost use Rattle.claims.specs.Decoders.{claimsId, claimsAddress};
+ghost use Rattle.claims.specs.Decoders.{noDecoders, idDecoders, addressDecoders};
 ghost use Rattle.claims.specs.Over.{chassisOver};
 
-// Whether port p claims an ID: by its bus pair, or by its RID vector.
-pub fn claims_id<'a>(s: &'a [u8], patch: &'a [u8], p: PortNo, rid: Rid) -> bool
-    ensures { λ r. ⌜ r ≡ claimsId (portAt (now (s .entry)) (p .0)) (vectorOver (now (s .entry)) (now (patch .entry)) (p .0)) (rid .0) ⌝ }
+// No decoder claims the target.
+fn no_decoders() -> Decoders
+    ensures { λ r. ⌜ r ≡ noDecoders ⌝ }
 {
-    let port = port_at(s, p);
-    let b = port.bridge;
-    let f = port.fpb;
-    bus_claims(b, rid)
-        | vector_claims(
-            f,
-            Mechanism::Rid,
-            vector(s, patch, p, Mechanism::Rid),
-            rid.0 as u64,
-        )
+    Decoders {
+        bus: false,
+        rid: false,
+        mem: false,
+        pref: false,
+        low: false,
+        high: false,
+    }
 }
 
-// Whether port p claims an address: by one of the memory decoders, with Memory Space Enable set.
-fn claims_address<'a>(s: &'a [u8], patch: &'a [u8], p: PortNo, a: u64) -> bool
-    ensures { λ r. ⌜ r ≡ claimsAddress (portAt (now (s .entry)) (p .0)) (vectorOver (now (s .entry)) (now (patch .entry)) (p .0)) a ⌝ }
+// The decoders of port p that claim an ID: its bus pair, its RID vector.
+fn id_decoders<'a>(s: &'a [u8], patch: &'a [u8], p: PortNo, rid: Rid) -> Decoders
+    ensures { λ r. ⌜ r ≡ idDecoders (portAt (now (s .entry)) (p .0)) (vectorOver (now (s .entry)) (now (patch .entry)) (p .0)) (rid .0) ⌝ }
 {
     let port = port_at(s, p);
     let b = port.bridge;
     let f = port.fpb;
-    memory_space_enabled(b)
-        & (memory_claims(b, a)
-            | prefetchable_claims(b, a)
-            | low_claims(f, vector(s, patch, p, Mechanism::Low), a)
-            | high_claims(f, vector(s, patch, p, Mechanism::High), a))
+    let v = vector(s, patch, p, Mechanism::Rid);
+    let mut by = no_decoders();
+    by.bus = bus_claims(b, rid);
+    by.rid = vector_claims(f, Mechanism::Rid, v, rid.0 as u64);
+    by
+}
+
+// The decoders of port p that claim an address; without Memory Space Enable none does.
+fn address_decoders<'a>(s: &'a [u8], patch: &'a [u8], p: PortNo, a: u64) -> Decoders
+    ensures { λ r. ⌜ r ≡ addressDecoders (portAt (now (s .entry)) (p .0)) (vectorOver (now (s .entry)) (now (patch .entry)) (p .0)) a ⌝ }
+{
+    let port = port_at(s, p);
+    let b = port.bridge;
+    let f = port.fpb;
+    let mut by = no_decoders();
+    if memory_space_enabled(b) {
+        by.mem = memory_claims(b, a);
+        by.pref = prefetchable_claims(b, a);
+        by.low = low_claims(f, vector(s, patch, p, Mechanism::Low), a);
+        by.high = high_claims(f, vector(s, patch, p, Mechanism::High), a);
+    }
+    by
+}
+
+// The decoders of port p that claim the target.
+pub fn decoders_of<'a>(s: &'a [u8], patch: &'a [u8], p: PortNo, t: Target) -> Decoders
+    ensures { λ r. ⌜ r ≡ chassisOver (now (s .entry)) (now (patch .entry)) .decoders (p .0) t ⌝ }
+{
+    match t {
+        Target::Id(rid) => id_decoders(s, patch, p, rid),
+        Target::Addr(a) => address_decoders(s, patch, p, a),
+    }
 }
 
 // Whether at least one decoder of port p claims the target.
 pub fn claims<'a>(s: &'a [u8], patch: &'a [u8], p: PortNo, t: Target) -> bool
     ensures { λ r. ⌜ r ≡ chassisOver (now (s .entry)) (now (patch .entry)) .claims (p .0) t ⌝ }
 {
-    match t {
-        Target::Id(rid) => claims_id(s, patch, p, rid),
-        Target::Addr(a) => claims_address(s, patch, p, a),
-    }
+    decoders_of(s, patch, p, t).at_least_one()
 }
 
 // Whether the target is the ID of port p itself, whatever the patch.
@@ -86,6 +110,17 @@ pub fn holds<'a>(s: &'a [u8], patch: &'a [u8], p: PortNo, t: Target) -> bool
     ensures { λ r. ⌜ r ≡ holds (chassisOver (now (s .entry)) (now (patch .entry))) t (p .0) ⌝ }
 {
     is_own(s, p, t) | claims(s, patch, p, t)
+}
+
+// What port p has to do with the target: whether it is its own, and the decoders that claim it.
+pub fn hold_of<'a>(s: &'a [u8], patch: &'a [u8], p: PortNo, t: Target) -> Hold
+    ensures { λ r. ⌜ r ≡ holdOf (chassisOver (now (s .entry)) (now (patch .entry))) t (p .0) ⌝ }
+{
+    Hold {
+        port: p,
+        own: is_own(s, p, t),
+        decoders: decoders_of(s, patch, p, t),
+    }
 }
 
 // Whether port p forwards with ARI.

@@ -11,7 +11,7 @@ use borrow.Author.Tests.{le-leb, lt-leb, eq-eqb, ne-eqb}
 use Rattle.ids.specs.declared.Space.{Space}
 use Rattle.ids.specs.declared.Space.the-variants.{Ids, Addresses}
 use Rattle.ids.specs.Ids.{busOf}
-use Rattle.chassis.specs.Chassis.{targetIn, spaceSize, isOwn}
+use Rattle.chassis.specs.Chassis.{targetIn, spaceSize, isOwn, atLeastOne}
 use Rattle.vectors.specs.Vectors.{hits}
 use Rattle.registers.specs.declared.Bridge.{Bridge}
 use Rattle.registers.specs.declared.Fpb.{Fpb}
@@ -20,8 +20,9 @@ use Rattle.registers.specs.declared.Mechanism.{Mechanism}
 use Rattle.registers.specs.declared.Mechanism.the-variants.{Rid, Low, High}
 use Rattle.registers.specs.Record.{portAt}
 use Rattle.registers.specs.Vectors.{enabledIn, settingsOf}
-use Rattle.claims.specs.Decoders.{between, baseOf, busClaims, vectorClaims, memoryClaims, prefetchableClaims, lowClaims, highClaims, memorySpaceEnabled, claimsId, claimsAddress}
+use Rattle.claims.specs.Decoders.{between, baseOf, busClaims, vectorClaims, memoryClaims, prefetchableClaims, lowClaims, highClaims, memorySpaceEnabled, idDecoders, addressDecoders}
 use Rattle.claims.specs.Claims.{chassisWith}
+use Rattle.claims.proofs.Joined.{claims-id, claims-address}
 use Rattle.spans.specs.declared.Reach.{Reach}
 use Rattle.spans.specs.Ranges.{inRange}
 use Rattle.spans.specs.Grids.{hitIn}
@@ -77,10 +78,11 @@ bus-in on b t small = rw (range-in _ _ _ t, bus-between _ _ t small, and-assoc)
 
 module _ (p : Port) (vector : Mechanism → List ℕ) (own claims : Bool) where
   id-words : (t : ℕ) → t < 2 ^ 16
-      → reaches (idReach p own claims) (vector Rid) (vector High) t ≡ (own && eqb (p .«own_id» .0) t || claims && claimsId p vector t)
-  unfolding reaches onRanges onGrids idReach claimsId
+      → reaches (idReach p own claims) (vector Rid) (vector High) t ≡ (own && eqb (p .«own_id» .0) t || claims && atLeastOne (idDecoders p vector t))
+  unfolding reaches onRanges onGrids idReach
   id-words t small =
       rw (
+        claims-id p vector t,
         bus-in claims (p .bridge) t small,
         range-in own _ _ t,
         between-one (p .«own_id» .0) t,
@@ -92,11 +94,12 @@ module _ (p : Port) (vector : Mechanism → List ℕ) (own claims : Bool) where
       (either-way claims (own && eqb (p .«own_id» .0) t) (busClaims (p .bridge) t) (vectorClaims (p .fpb) Rid (vector Rid) t))
 
   address-words : (t : ℕ) → t < 2 ^ 64
-      → reaches (addressReach p (claims && memorySpaceEnabled (p .bridge))) (vector Low) (vector High) t ≡ (claims && claimsAddress p vector t)
-  unfolding reaches onRanges onGrids addressReach memoryRange prefetchableRange claimsAddress memoryClaims prefetchableClaims lowClaims highClaims
+      → reaches (addressReach p (claims && memorySpaceEnabled (p .bridge))) (vector Low) (vector High) t ≡ (claims && atLeastOne (addressDecoders p vector t))
+  unfolding reaches onRanges onGrids addressReach memoryRange prefetchableRange memoryClaims prefetchableClaims lowClaims highClaims
   address-words t small =
       let on = claims && memorySpaceEnabled (p .bridge) in
       rw (
+        claims-address p vector t,
         range-in on (baseOf (p .bridge .«memory_base»)) _ t,
         range-in on _ _ t,
         grid-in on (p .fpb) Low (vector Low) 0 (2 ^ 32 - 1) t,

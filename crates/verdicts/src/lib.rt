@@ -2,6 +2,7 @@
 use chassis::Fault;
 use chassis::Row;
 use chassis::Verdict;
+use claims::hold_of;
 use culprits::PortFault;
 use culprits::first_pair;
 use culprits::lowest;
@@ -32,7 +33,7 @@ fn target_in(space: Space, t: u64) -> Target
     }
 }
 
-// What a faulty target shows: the first pair at it, or the lowest port.
+// What a faulty target shows: the first pair at it, or the lowest port, each with its hold on it.
 fn verdict_at<'a>(s: &'a [u8], patch: &'a [u8], n: u8, fault: Fault, t: Target) -> Verdict
     requires { ⌜ n ≡ countOf (now s) ⌝ }
     requires { ⌜ faulty fault (chassisOver (now s) (now patch)) t ≡ true ⌝ }
@@ -41,11 +42,11 @@ fn verdict_at<'a>(s: &'a [u8], patch: &'a [u8], n: u8, fault: Fault, t: Target) 
     match fault {
         Fault::Shared => {
             let pair = first_pair(s, patch, n, t);
-            let first = pair.first;
-            let second = pair.second;
+            let first = hold_of(s, patch, pair.first, t);
+            let second = hold_of(s, patch, pair.second, t);
             Verdict::Shared(t, first, second)
         }
-        Fault::Stray => Verdict::Stray(t, lowest_stray(s, patch, n, t)),
+        Fault::Stray => Verdict::Stray(t, hold_of(s, patch, lowest_stray(s, patch, n, t), t)),
     }
 }
 

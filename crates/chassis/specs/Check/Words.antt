@@ -20,5 +20,5 @@ pub use Rattle.chassis.specs.declared.Row.{Row}
 pub use Rattle.chassis.specs.declared.Row.the-variants.{At as RowAt, Lost as RowLost}
 pub use Rattle.chassis.specs.declared.Verdict.{Verdict}
 pub use Rattle.chassis.specs.declared.Verdict.the-variants.{Clear, Shared, Stray, Lost}
-pub use Rattle.chassis.specs.Chassis.{Chassis, isOwn, holds, targetIn, spaceSize}
+pub use Rattle.chassis.specs.Chassis.{Chassis, isOwn, holds, holdOf, targetIn, spaceSize}
 pub use Rattle.chassis.specs.Tree.{rootPort, standsAt, anyBelow}

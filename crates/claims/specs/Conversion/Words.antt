@@ -15,4 +15,4 @@ pub use Rattle.registers.specs.declared.Mechanism.{Mechanism}
 pub use Rattle.registers.specs.declared.Mechanism.the-variants.{Rid}
 pub use Rattle.registers.specs.Vectors.{field, enabledIn}
 pub use Rattle.registers.specs.Rules.{withAri}
-pub use Rattle.claims.specs.Decoders.{between, busClaims, claimsId}
+pub use Rattle.claims.specs.Decoders.{between, busClaims, claimsTarget}

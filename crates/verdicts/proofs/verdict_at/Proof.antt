@@ -8,10 +8,21 @@ first-pair-requires c κs = (c .before .before .before .before .pre .0, rw (c .e
 
 returns : tie.Need-returns
 unfolding pairAt
-returns c = rw (c .before .before .before .enum-told .given .1, c .before .before .first-pair .ensures)
+returns c = rw (c .before .before .before .enum-told .given .1, c .hold-of2 .ensures, c .before .hold-of .ensures, c .before .before .first-pair .ensures)
 
 returns-2 : tie.Need-returns-2
-returns-2 c = rw (c .before .enum-told2 .given .1, c .lowest-stray .ensures)
+returns-2 c = rw (c .before .before .enum-told2 .given .1, c .hold-of3 .ensures, c .before .lowest-stray .ensures)
 
 pub verdict-at-spec : {M : Type 1} → statement M
-verdict-at-spec = tie.close (tie.spec (λ c. search needs) first-pair-requires (λ c. search needs) (λ c κs. search needs) returns returns-2)
+verdict-at-spec =
+    tie.close
+    (tie.spec
+    (λ c. search needs)
+    first-pair-requires
+    (λ c κs. search needs)
+    (λ c κs. search needs)
+    (λ c. search needs)
+    (λ c κs. search needs)
+    (λ c κs. search needs)
+    returns
+    returns-2)
