@@ -110,17 +110,17 @@ c9 =
 
 -- "C10 downstream, buses 3..5, no ARI: 0308h is Unsupported Request."
 unfoldable pub c10 : Bool
-c10 = isConversion Unsupported (convertAnswer (chainWith 0) 2 (record { 0 = 0x308 }))
+c10 = isConversion Unsupported (convertAnswer (chainWith 0) 2 0x308)
 
 -- "C11 with ARI: Type 0, Function 8."
 unfoldable pub c11 : Bool
 c11 =
-    isConversion Type0 (convertAnswer (chainWith 32) 2 (record { 0 = 0x308 }))
+    isConversion Type0 (convertAnswer (chainWith 32) 2 0x308)
     && eqb (functionNumber (chassisOf (chainWith 32)) 2 (Id (record { 0 = 0x308 }))) 8
 
 -- "C12 0400h passes as Type 1."
 unfoldable pub c12 : Bool
-c12 = isConversion Type1 (convertAnswer (chainWith 0) 2 (record { 0 = 0x400 }))
+c12 = isConversion Type1 (convertAnswer (chainWith 0) 2 0x400)
 
 abbrev pub settled : List Bool
 settled = c1 ∷ c2 ∷ c3 ∷ c4 ∷ c5 ∷ c6 ∷ c7 ∷ c8 ∷ c9 ∷ c10 ∷ c11 ∷ c12 ∷ []

@@ -6,7 +6,6 @@ use given::chain_with;
 use given::entry_of;
 use given::fpb_of;
 use given::memory_of;
-use ids::Rid;
 use registers::Mechanism;
 
 // C1 to C4.
@@ -70,14 +69,14 @@ fn conversions() {
     let plain = chain_with(0);
     let with_ari = chain_with(32);
     print::case(10);
-    print::answer(judge::convert(&plain, 2, Rid(0x0308)));
+    print::answer(judge::convert(&plain, 2, 0x0308));
     print::end();
     print::case(11);
-    print::answer(judge::convert(&with_ari, 2, Rid(0x0308)));
+    print::answer(judge::convert(&with_ari, 2, 0x0308));
     print::function(judge::walk(&with_ari, 2, 255, 0x0308));
     print::end();
     print::case(12);
-    print::answer(judge::convert(&plain, 2, Rid(0x0400)));
+    print::answer(judge::convert(&plain, 2, 0x0400));
     print::end();
 }
 

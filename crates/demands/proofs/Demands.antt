@@ -1,6 +1,5 @@
 -- The three demands, proved of the definitions that the public calls promise. Assumes nothing.
 use Prim.Native.Nat.{ℕ, _-_, _≤_, _<_}
-use borrow.Author.Tests.{lt-ltb}
 use Rattle.least.proofs.Laws.{impossible}
 use Rattle.chassis.proofs.Bools.{never-both-values}
 use mathlib.Core.Bool.{Bool, true, false}
@@ -11,7 +10,6 @@ use native.Mathlib.Nat.{le-trans}
 use native.Mathlib.Omega.{arith}
 use lib.ListN.{length, drop, length-append, length-replicate}
 use Rattle.ids.specs.declared.PortNo.{PortNo}
-use Rattle.ids.specs.declared.Rid.{Rid}
 use Rattle.ids.specs.declared.Target.{Target}
 use Rattle.ids.specs.declared.Target.the-variants.{Id, Addr}
 use Rattle.chassis.specs.declared.End.{End}
@@ -19,7 +17,9 @@ use Rattle.chassis.specs.declared.Packet.{Packet}
 use Rattle.chassis.specs.declared.Verdict.{Verdict}
 use Rattle.chassis.specs.declared.Verdict.the-variants.{Clear, Shared, Stray, Lost}
 use Rattle.chassis.specs.declared.Fault.the-variants.{Shared as Faulty·Shared, Stray as Faulty·Stray}
-use Rattle.chassis.specs.Chassis.{Chassis}
+use Rattle.chassis.specs.declared.Hold.{Hold}
+use Rattle.chassis.specs.Chassis.{Chassis, holds, atLeastOne, holdOf, isHeld}
+use Rattle.chassis.proofs.NamedHold.{pair-held, itself-held, stray-held}
 use Rattle.chassis.specs.Check.{faulty, verdictOf}
 use Rattle.chassis.specs.Table.{findingOf}
 use Rattle.chassis.specs.Findings.{NoneWith, Says}
@@ -48,8 +48,9 @@ use Rattle.judge.specs.declared.Outcome.the-variants.{Ended}
 use Rattle.judge.specs.declared.ClaimAnswer.the-variants.{Claimed}
 use Rattle.judge.specs.declared.ConvertAnswer.the-variants.{Converted}
 use Rattle.judge.specs.Checking.{checkOf, checkAnswer, checkFinding, checkNumber}
-use Rattle.judge.specs.Claiming.{claimOf, claimAnswer}
-use Rattle.judge.specs.Converting.{convertOf, convertAnswer}
+use Rattle.judge.specs.Asking.{targetAsked}
+use Rattle.judge.specs.Claiming.{claimAskedWrongly, claimOf, claimAnswer}
+use Rattle.judge.specs.Converting.{convertAskedWrongly, convertOf, convertAnswer}
 use Rattle.judge.specs.Refusals.{number16, refusalFinding}
 use Rattle.judge.specs.Walking.{packetOf, askedWrongly, refusedWalk, endedWalk, AskedGives, ReadGives, WalkGives}
 use Rattle.judge.specs.Trying.{trialCheck, TriedGives, TrialGives}
@@ -84,15 +85,19 @@ names path crossed short is =
     whole = simp (length-append, length-replicate) (omega arith)
 
 module _ (s : List ℕ) where
-  claims-it : (h : Header) → reading s ≡ Read h → (port : ℕ) → port < h .count → (t : Target)
-      → claimAnswer s port t ≡ Claimed (chassisOf s .claims port t)
+  claims-it : (h : Header) → reading s ≡ Read h → (port kind target : ℕ) → claimAskedWrongly (h .count) port kind target ≡ false
+      → claimAnswer s port kind target ≡ Claimed (holdOf (chassisOf s) (targetAsked kind target) port)
   unfolding claimOf
-  claims-it h is port below t = rw (is, lt-ltb port (h .count) below)
+  claims-it h is port kind target right = rw (is, right)
 
-  converts-it : (h : Header) → reading s ≡ Read h → (port : ℕ) → port < h .count → (rid : Rid)
-      → convertAnswer s port rid ≡ Converted (chassisOf s .conversion port (Id rid))
+  held-it : (port : ℕ) (t : Target) → holds (chassisOf s) t port ≡ isHeld (holdOf (chassisOf s) t port)
+  unfolding holds isHeld
+  held-it port t = refl
+
+  converts-it : (h : Header) → reading s ≡ Read h → (port target : ℕ) → convertAskedWrongly (h .count) port target ≡ false
+      → convertAnswer s port target ≡ Converted (chassisOf s .conversion port (Id (record { 0 = target })))
   unfolding convertOf
-  converts-it h is port below rid = rw (is, lt-ltb port (h .count) below)
+  converts-it h is port target right = rw (is, right)
 
 module _ (s : List ℕ) (kind start target : ℕ) where
   -- the walk's answer: a refusal, or where the rules lead
@@ -199,7 +204,7 @@ demand-1-buffer s before =
     }
 
 pub demand-2 : (s : List ℕ) → Demand2 s
-demand-2 s = record { claims = claims-it s; converts = converts-it s; walks = walks-in s }
+demand-2 s = record { claims = claims-it s; joined = λ port t. refl; held = held-it s; converts = converts-it s; walks = walks-in s }
 
 -- a verdict of number 0 is Clear
 clear-only : (v : Verdict) → findingOf v .number ≡ 0 → v ≡ Clear
@@ -274,3 +279,15 @@ judged-only s v = go (reading s)
 
 pub overlap-exactly : (s : List ℕ) → OverlapExactly s
 overlap-exactly s = fails-exactly (reading s) (checkAnswer s) (chassisOf s) (judged s) (judged-only s)
+
+-- each port that 11 to 14 name holds the target, and a port that is a pair with itself owns it and claims it
+module _ (s : List ℕ) (t : Target) where
+  pub pair-named : (h k : Hold) → checkAnswer s ≡ Judged (Shared t h k) → (isHeld h ≡ true) × (isHeld k ≡ true)
+  pair-named h k is = pair-held (chassisOf s) (λ p u. refl) t h k (overlap-exactly s .shown (Shared t h k) is)
+
+  pub itself-named : (h k : Hold) → checkAnswer s ≡ Judged (Shared t h k) → h .port .0 ≡ k .port .0
+      → (h .own ≡ true) × (atLeastOne (h .decoders) ≡ true)
+  itself-named h k is same = itself-held (chassisOf s) (λ p u. refl) t h k (overlap-exactly s .shown (Shared t h k) is) same
+
+  pub stray-named : (h : Hold) → checkAnswer s ≡ Judged (Stray t h) → isHeld h ≡ true
+  stray-named h is = stray-held (chassisOf s) (λ p u. refl) t h (overlap-exactly s .shown (Stray t h) is)

@@ -6,7 +6,7 @@ use Rattle.ids.specs.declared.Target.{Target}
 use Rattle.ids.specs.declared.Target.the-variants.{Id}
 use Rattle.least.specs.Least.{firstOf, firstIn}
 use Rattle.lent.specs.Lent.{u16At, u32At}
-use Rattle.chassis.specs.Chassis.{holds}
+use Rattle.chassis.specs.Chassis.{holds, atLeastOne}
 use Rattle.chassis.specs.Check.{clash, clashesWith, faulty}
 use Rattle.chassis.specs.declared.Fault.the-variants.{Shared}
 use Rattle.chassis.specs.Tree.{anyBelow, upstreamBroken, downstreamBroken, treeBroken, oneAbove, above, chainTooLong}
@@ -18,7 +18,7 @@ use Rattle.picture.specs.Layout.{runningOffset, placeWrong, endWrong}
 use Rattle.picture.specs.declared.Header.{Header}
 use Rattle.picture.specs.declared.Reading.the-variants.{Read}
 use Rattle.picture.specs.Reading.{breaks, misplacedIn, portsReading, reading}
-use Rattle.claims.specs.Decoders.{busClaims, vectorClaims, claimsId}
+use Rattle.claims.specs.Decoders.{busClaims, vectorClaims, idDecoders}
 use Rattle.claims.specs.Claims.{chassisOf}
 use Rattle.demands.specs.Worked.{zeros, u16, u32, headerFor, recordOf, switchWith}
 use Rattle.demands.proofs.Tests.{just}
@@ -38,7 +38,7 @@ id n = Id (record { 0 = n })
 pub unshared-where : (bus n : ℕ) → chassisOf (switchWith bus) .claims 3 (id 0x0208) ≡ false
     → (holds (chassisOf (switchWith bus)) (id n) 2 && holds (chassisOf (switchWith bus)) (id n) 3) ≡ false
     → faulty Shared (chassisOf (switchWith bus)) (id n) ≡ false
-unfolding zeros u16 u32 headerFor recordOf switchWith u16At u32At bridgeAt fpbAt portAt recordAt busClaims vectorClaims claimsId anyBelow clash clashesWith faulty
+unfolding zeros u16 u32 headerFor recordOf switchWith u16At u32At bridgeAt fpbAt portAt recordAt busClaims vectorClaims idDecoders atLeastOne anyBelow clash clashesWith faulty
 unshared-where bus n own apart =
     simp (
       just 0x0008 n (λ m. chassisOf (switchWith bus) .claims 0 (id m)) refl,

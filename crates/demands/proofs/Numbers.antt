@@ -7,7 +7,6 @@ use mathlib.Core.Path.{_≡_, refl, sym, ap, subst, _∙_}
 use lib.ListN.{length}
 use lib.Dec.{eqb, ltb}
 use Rattle.least.proofs.Laws.{impossible}
-use Rattle.ids.specs.declared.Rid.{Rid}
 use Rattle.ids.specs.declared.Target.{Target}
 use Rattle.ids.specs.declared.Target.the-variants.{Id, Addr}
 use Rattle.least.specs.declared.Found.{Found}
@@ -28,8 +27,8 @@ use Rattle.picture.specs.Reading.{breaks, misplacedIn, refusedIf, refusedAt, po
 use Rattle.claims.specs.Claims.{chassisOf}
 use Rattle.judge.specs.declared.WalkAnswer.{WalkAnswer}
 use Rattle.judge.specs.Checking.{checkOf, checkAnswer, checkFinding, checkNumber}
-use Rattle.judge.specs.Claiming.{claimOf, claimAnswer, claimNumber}
-use Rattle.judge.specs.Converting.{convertOf, convertAnswer, convertNumber}
+use Rattle.judge.specs.Claiming.{claimAskedWrongly, claimOf, claimAnswer, claimNumber}
+use Rattle.judge.specs.Converting.{convertAskedWrongly, convertOf, convertAnswer, convertNumber}
 use Rattle.judge.specs.Ends.{outcomeNumber}
 use Rattle.judge.specs.Refusals.{number16, refusalFinding}
 use Rattle.judge.specs.Walking.{askedWrongly, refusedWalk, endedWalk, AskedGives, ReadGives, WalkGives}
@@ -121,29 +120,31 @@ module _ (s : List ℕ) where
       go (Refused r) told = refusal-of-table (11 ∷ 12 ∷ 13 ∷ 14 ∷ 15 ∷ []) (r .number) told
       go (Read h) told = verdict-numbered (verdictOf (chassisOf s))
 
-  pub claim-numbered : (port : ℕ) (t : Target) → oneOf ofAsking (claimNumber (claimAnswer s port t)) ≡ true
+  pub claim-numbered : (port kind target : ℕ) → oneOf ofAsking (claimNumber (claimAnswer s port kind target)) ≡ true
   unfolding claimOf
-  claim-numbered port t = go (reading s) (reading-numbered s)
+  claim-numbered port kind target = go (reading s) (reading-numbered s)
     where
-      below : (b : Bool) (h : Header) → ltb port (h .count) ≡ b → oneOf ofAsking (claimNumber (claimOf (Read h) s port t)) ≡ true
-      below true h e = rw e
-      below false h e = rw e
+      asked : (wrong : Bool) (h : Header) → claimAskedWrongly (h .count) port kind target ≡ wrong
+          → oneOf ofAsking (claimNumber (claimOf (Read h) s port kind target)) ≡ true
+      asked true h e = rw e
+      asked false h e = rw e
 
-      go : (got : Reading) → Numbered got → oneOf ofAsking (claimNumber (claimOf got s port t)) ≡ true
+      go : (got : Reading) → Numbered got → oneOf ofAsking (claimNumber (claimOf got s port kind target)) ≡ true
       go (Refused r) told = refusal-of-table (16 ∷ []) (r .number) told
-      go (Read h) told = below (ltb port (h .count)) h refl
+      go (Read h) told = asked (claimAskedWrongly (h .count) port kind target) h refl
 
-  pub convert-numbered : (port : ℕ) (rid : Rid) → oneOf ofAsking (convertNumber (convertAnswer s port rid)) ≡ true
+  pub convert-numbered : (port target : ℕ) → oneOf ofAsking (convertNumber (convertAnswer s port target)) ≡ true
   unfolding convertOf
-  convert-numbered port rid = go (reading s) (reading-numbered s)
+  convert-numbered port target = go (reading s) (reading-numbered s)
     where
-      below : (b : Bool) (h : Header) → ltb port (h .count) ≡ b → oneOf ofAsking (convertNumber (convertOf (Read h) s port rid)) ≡ true
-      below true h e = rw e
-      below false h e = rw e
+      asked : (wrong : Bool) (h : Header) → convertAskedWrongly (h .count) port target ≡ wrong
+          → oneOf ofAsking (convertNumber (convertOf (Read h) s port target)) ≡ true
+      asked true h e = rw e
+      asked false h e = rw e
 
-      go : (got : Reading) → Numbered got → oneOf ofAsking (convertNumber (convertOf got s port rid)) ≡ true
+      go : (got : Reading) → Numbered got → oneOf ofAsking (convertNumber (convertOf got s port target)) ≡ true
       go (Refused r) told = refusal-of-table (16 ∷ []) (r .number) told
-      go (Read h) told = below (ltb port (h .count)) h refl
+      go (Read h) told = asked (convertAskedWrongly (h .count) port target) h refl
 
   pub walk-numbered : (kind start target : ℕ) (a : WalkAnswer) → WalkGives s kind start target a → oneOf ofAsking (outcomeNumber (a .outcome)) ≡ true
   unfolding refusedWalk endedWalk

@@ -11,7 +11,7 @@ use Rattle.lent.specs.Lent.{u16At, u32At}
 use Rattle.chassis.specs.declared.Fault.{Fault}
 use Rattle.chassis.specs.declared.Fault.the-variants.{Shared, Stray}
 use Rattle.chassis.specs.declared.Verdict.the-variants.{Clear}
-use Rattle.chassis.specs.Chassis.{Chassis, holds}
+use Rattle.chassis.specs.Chassis.{Chassis, holds, atLeastOne}
 use Rattle.chassis.specs.Check.{clash, clashesWith, straysAt, ownIdLost, faulty}
 use Rattle.chassis.specs.Findings.{NoneWith, Says}
 use Rattle.chassis.specs.OneEnd.{InRange, OneEnd}
@@ -22,9 +22,10 @@ use Rattle.picture.specs.declared.Reading.the-variants.{Read}
 use Rattle.picture.specs.Reading.{reading}
 use Rattle.registers.specs.Record.{bridgeAt, fpbAt, portAt, recordAt}
 use Rattle.registers.specs.Rules.{withAri}
-use Rattle.claims.specs.Decoders.{between, busClaims, vectorClaims, memoryClaims, prefetchableClaims, lowClaims, highClaims, memorySpaceEnabled, claimsId, claimsAddress}
+use Rattle.claims.specs.Decoders.{between, busClaims, vectorClaims, memoryClaims, prefetchableClaims, lowClaims, highClaims, memorySpaceEnabled, idDecoders, addressDecoders}
 use Rattle.claims.specs.Conversion.{inSecondaryRange, convertedByBus, converted}
 use Rattle.claims.specs.Claims.{chassisOf}
+use Rattle.claims.proofs.Joined.{claims-id}
 use Rattle.judge.specs.Checking.{checkOf, checkAnswer, checkFinding, checkNumber}
 use Rattle.demands.specs.Worked.{zeros, u16, u32, headerFor, recordOf, switchWith, worked}
 use Rattle.demands.proofs.Demands.{demand-3}
@@ -43,15 +44,15 @@ buses : (n : ℕ)
     × (c .claims 1 (id n) ≡ between 2 4 (busOf n))
     × (c .claims 2 (id n) ≡ between 3 3 (busOf n))
     × (c .claims 3 (id n) ≡ between 4 4 (busOf n))
-unfolding zeros u16 u32 headerFor recordOf switchWith u16At u32At bridgeAt fpbAt portAt recordAt busClaims vectorClaims claimsId
-buses n = (or-false _, or-false _, or-false _, or-false _)
+unfolding zeros u16 u32 headerFor recordOf switchWith u16At u32At bridgeAt fpbAt portAt recordAt busClaims vectorClaims
+buses n = (claims-id _ _ n ∙ or-false _, claims-id _ _ n ∙ or-false _, claims-id _ _ n ∙ or-false _, claims-id _ _ n ∙ or-false _)
 
 windows : (a : ℕ)
     → (c .claims 0 (Addr a) ≡ between 0xE0000000 0xE00FFFFF a)
     × (c .claims 1 (Addr a) ≡ between 0xE0000000 0xE00FFFFF a)
     × (c .claims 2 (Addr a) ≡ between 0xE0000000 0xE00FFFFF a)
     × (c .claims 3 (Addr a) ≡ false)
-unfolding zeros u16 u32 headerFor recordOf switchWith u16At u32At bridgeAt fpbAt portAt recordAt vectorClaims memoryClaims prefetchableClaims lowClaims highClaims memorySpaceEnabled claimsAddress
+unfolding zeros u16 u32 headerFor recordOf switchWith u16At u32At bridgeAt fpbAt portAt recordAt vectorClaims memoryClaims prefetchableClaims lowClaims highClaims memorySpaceEnabled addressDecoders atLeastOne
 windows a = (only-window, only-window, only-window, refl)
   where
     only-window : (((between 0xE0000000 0xE00FFFFF a || between 0xFFF00000 0x000FFFFF a) || ltb a (2 ^ 32) && false) || leb (2 ^ 32) a && false)
@@ -61,7 +62,7 @@ windows a = (only-window, only-window, only-window, refl)
 -- no ID is held by the two downstream ports, and what a port holds is claimed by its parent
 module _ (n : ℕ) where
   held-apart : (holds c (id n) 2 && holds c (id n) 3) ≡ false
-  unfolding zeros u16 u32 headerFor recordOf switchWith u16At u32At bridgeAt fpbAt portAt recordAt busClaims vectorClaims claimsId holds
+  unfolding zeros u16 u32 headerFor recordOf switchWith u16At u32At bridgeAt fpbAt portAt recordAt busClaims vectorClaims idDecoders atLeastOne holds
   held-apart =
       either-or 0x0200 n (λ m. c .claims 2 (id m)) (λ m. holds c (id m) 3) refl
       (and-comm (c .claims 2 (id n)) (holds c (id n) 3)
@@ -70,11 +71,11 @@ module _ (n : ℕ) where
       ∙ rw (buses n .2, buses n .3) (apart 3 3 4 4 (busOf n) (omega arith))))
 
   unshared-id : faulty Shared c (id n) ≡ false
-  unfolding zeros u16 u32 headerFor recordOf switchWith u16At u32At bridgeAt fpbAt portAt recordAt busClaims vectorClaims claimsId
+  unfolding zeros u16 u32 headerFor recordOf switchWith u16At u32At bridgeAt fpbAt portAt recordAt busClaims vectorClaims idDecoders atLeastOne
   unshared-id = unshared-where 4 n refl held-apart
 
   unstrayed-id : faulty Stray c (id n) ≡ false
-  unfolding zeros u16 u32 headerFor recordOf switchWith u16At u32At bridgeAt fpbAt portAt recordAt busClaims vectorClaims claimsId holds anyBelow straysAt faulty
+  unfolding zeros u16 u32 headerFor recordOf switchWith u16At u32At bridgeAt fpbAt portAt recordAt busClaims vectorClaims idDecoders atLeastOne holds anyBelow straysAt faulty
   unstrayed-id =
       simp (
         either-or 0x0100 n (λ m. c .claims 1 (id m)) (λ m. not (c .claims 0 (id m))) refl
@@ -95,7 +96,7 @@ module _ (n : ℕ) where
 
 -- no own ID is lost
 kept : anyBelow (ownIdLost c) (c .tree .count) ≡ false
-unfolding zeros u16 u32 headerFor recordOf switchWith u16At u32At bridgeAt fpbAt portAt recordAt withAri busClaims vectorClaims claimsId inSecondaryRange convertedByBus converted anyBelow ownIdLost
+unfolding zeros u16 u32 headerFor recordOf switchWith u16At u32At bridgeAt fpbAt portAt recordAt withAri busClaims vectorClaims idDecoders atLeastOne inSecondaryRange convertedByBus converted anyBelow ownIdLost
 kept = refl
 
 says-clear : Says c Clear

@@ -3,7 +3,7 @@
 use Prim.Native.Nat.{ℕ, zero, suc, _/_, _%_}
 use mathlib.Core.Bool.{Bool, true, false, and-false}
 use mathlib.Core.Logic.{_⊎_}
-use mathlib.Core.Path.{_≡_, refl, ap}
+use mathlib.Core.Path.{_≡_, refl, ap, _∙_}
 use native.Mathlib.Nat.{div-eq-of-lt}
 use native.Mathlib.Omega.{arith}
 use lib.Dec.{eqb}
@@ -19,7 +19,9 @@ use Rattle.vectors.specs.declared.Settings.{Settings}
 use Rattle.vectors.specs.Vectors.{entryAt, applies, isSet, hits}
 use Rattle.chassis.specs.declared.Fault.{Fault}
 use Rattle.chassis.specs.declared.Fault.the-variants.{Shared, Stray}
+use Rattle.chassis.specs.declared.Hold.{Hold}
 use Rattle.chassis.specs.declared.Verdict.the-variants.{Clear, Shared as Found·Shared}
+use Rattle.chassis.specs.Chassis.{atLeastOne}
 use Rattle.chassis.specs.Check.{clash, clashesWith, straysAt, ownIdLost, faulty}
 use Rattle.chassis.specs.Findings.{Lowest, Earlier, NoneWith, Says, with-itself}
 use Rattle.chassis.specs.OneEnd.{InRange, OneEnd}
@@ -37,8 +39,9 @@ use Rattle.picture.specs.Reading.{breaks, misplacedIn, portsReading, reading}
 use Rattle.patches.specs.Patch.{rowAt, portIn, offsetAt, runningIn, headerMisfits, notRising, portMisplaced, portsMisplaced, offsetMisplaced, vectorsMisplaced}
 use Rattle.patches.specs.Patched.{putIn, newVectors, patchedTo, patched}
 use Rattle.patches.specs.Reading.{patchReading, readingWith}
-use Rattle.claims.specs.Decoders.{busClaims, vectorClaims, memorySpaceEnabled, claimsId, claimsAddress}
+use Rattle.claims.specs.Decoders.{busClaims, vectorClaims, memorySpaceEnabled, idDecoders, addressDecoders}
 use Rattle.claims.specs.Claims.{chassisOf}
+use Rattle.claims.proofs.Joined.{claims-id}
 use Rattle.judge.specs.declared.CheckAnswer.the-variants.{Judged}
 use Rattle.judge.specs.Checking.{checkOf, checkAnswer, checkFinding, checkNumber}
 use Rattle.judge.specs.Trying.{triedCheck, trialCheck}
@@ -88,12 +91,12 @@ unfolding isSet hits
 clear n g t = rw (zero-at n (entryAt g t / 8), div-eq-of-lt (pow-pos (entryAt g t % 8))) (and-false (applies g t))
 
 unclaimed : (n : ℕ) → chassisOf onePort .claims 0 (id n) ≡ false
-unfolding zeros u16 u32 onePort u16At u32At bridgeAt fpbAt portAt recordAt vectorBytes vectorOf busClaims vectorClaims claimsId
-unclaimed n = clear 32 _ n
+unfolding zeros u16 u32 onePort u16At u32At bridgeAt fpbAt portAt recordAt vectorBytes vectorOf busClaims vectorClaims
+unclaimed n = claims-id _ _ n ∙ clear 32 _ n
 
 -- nothing is at fault
 says-clear : Says (chassisOf onePort) Clear
-unfolding zeros u16 u32 onePort u16At u32At bridgeAt portAt recordAt memorySpaceEnabled claimsAddress anyBelow clash clashesWith straysAt ownIdLost faulty
+unfolding zeros u16 u32 onePort u16At u32At bridgeAt portAt recordAt memorySpaceEnabled addressDecoders atLeastOne anyBelow clash clashesWith straysAt ownIdLost faulty
 says-clear = (no-fault, anyBelow-false (ownIdLost (chassisOf onePort)) 1 .0 refl)
   where
     no-fault : (fault : Fault) → NoneWith fault (chassisOf onePort)
@@ -114,7 +117,7 @@ own-accepted = rw one-reads
 
 -- with its vector put in, the port claims its own ID
 pub own-overlaps : Overlap (chassisOf (patched onePort ownEntry))
-unfolding zeros u16 u32 onePort ownEntry u16At u32At bridgeAt fpbAt portAt recordAt settingsOf vectorBytes rowAt portIn offsetAt putIn newVectors patchedTo vectorOf isSet hits busClaims vectorClaims claimsId
+unfolding zeros u16 u32 onePort ownEntry u16At u32At bridgeAt fpbAt portAt recordAt settingsOf vectorBytes rowAt portIn offsetAt putIn newVectors patchedTo vectorOf isSet hits busClaims vectorClaims idDecoders atLeastOne
 own-overlaps =
     record {
       target = id 0x0008;
@@ -133,10 +136,19 @@ own-overlaps =
 pub own-fails : (checkNumber (trialCheck onePort ownEntry) ≡ 11) ⊎ (checkNumber (trialCheck onePort ownEntry) ≡ 12)
 own-fails = trial-overlap onePort ownEntry .exactly oneVector own-accepted .1 own-overlaps
 
+-- the port holds its own ID as such, and by its RID vector alone
+abbrev pub ownByRid : Hold
+ownByRid =
+    record {
+      port = portNo 0;
+      own = true;
+      decoders = record { bus = false; rid = true; mem = false; pref = false; low = false; high = false };
+    }
+
 -- no ID below its own is at fault, and there is only this port
-says-own : Says (chassisOf (patched onePort ownEntry)) (Found·Shared (id 0x0008) (portNo 0) (portNo 0))
-unfolding zeros u16 u32 onePort ownEntry u16At u32At bridgeAt fpbAt portAt recordAt settingsOf vectorBytes rowAt portIn offsetAt putIn newVectors patchedTo vectorOf isSet hits busClaims vectorClaims claimsId anyBelow clash clashesWith faulty
-says-own = (record { in-range = omega arith; passes = refl; first = first; port = sole refl }, sole refl)
+says-own : Says (chassisOf (patched onePort ownEntry)) (Found·Shared (id 0x0008) ownByRid ownByRid)
+unfolding zeros u16 u32 onePort ownEntry u16At u32At bridgeAt fpbAt portAt recordAt settingsOf vectorBytes rowAt portIn offsetAt putIn newVectors patchedTo vectorOf isSet hits busClaims vectorClaims idDecoders atLeastOne anyBelow clash clashesWith faulty
+says-own = (record { in-range = omega arith; passes = refl; first = first; port = sole refl }, sole refl, refl, refl)
   where
     first : (u : Target) → Earlier u (id 0x0008) → faulty Shared (chassisOf (patched onePort ownEntry)) u ≡ false
     first (Id m) below = rw (ne-eqb 0x0008 (m .0) (λ (e : 0x0008 ≡ m .0). omega (arith, e, below)))
@@ -146,8 +158,8 @@ says-own = (record { in-range = omega arith; passes = refl; first = first; port 
     sole passes = record { below = omega arith; passes = passes; first = λ q l. absurd (omega (arith, l)) }
 
 -- the least such target is shown, with its port
-pub own-shown : trialCheck onePort ownEntry ≡ Judged (Found·Shared (id 0x0008) (portNo 0) (portNo 0))
+pub own-shown : trialCheck onePort ownEntry ≡ Judged (Found·Shared (id 0x0008) ownByRid ownByRid)
 unfolding triedCheck checkOf
 own-shown =
     rw (own-accepted, trial-2 onePort ownEntry .reads oneVector own-accepted)
-    (ap Judged (verdict-exactly (chassisOf (patched onePort ownEntry)) (Found·Shared (id 0x0008) (portNo 0) (portNo 0)) .1 says-own))
+    (ap Judged (verdict-exactly (chassisOf (patched onePort ownEntry)) (Found·Shared (id 0x0008) ownByRid ownByRid) .1 says-own))

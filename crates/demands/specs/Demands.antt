@@ -30,8 +30,8 @@ pub record Demand1 (s : List ℕ) : Type 0 where
   pub reads : oneOf ofReading (numberOf (reading s)) ≡ true
   pub check : oneOf ofCheck (checkNumber (checkAnswer s)) ≡ true
   pub walk : (kind start target : ℕ) (a : WalkAnswer) → WalkGives s kind start target a → oneOf ofAsking (outcomeNumber (a .outcome)) ≡ true
-  pub claim : (port : ℕ) (t : Target) → oneOf ofAsking (claimNumber (claimAnswer s port t)) ≡ true
-  pub convert : (port : ℕ) (rid : Rid) → oneOf ofAsking (convertNumber (convertAnswer s port rid)) ≡ true
+  pub claim : (port kind target : ℕ) → oneOf ofAsking (claimNumber (claimAnswer s port kind target)) ≡ true
+  pub convert : (port target : ℕ) → oneOf ofAsking (convertNumber (convertAnswer s port target)) ≡ true
 
 -- the same of any bytes lent as a picture and as a patch
 pub record Trial1 (s patch : List ℕ) : Type 0 where
@@ -68,12 +68,15 @@ pub record WalksIn (c : Chassis) (Gives : ℕ → ℕ → ℕ → WalkAnswer →
 
 -- Demand 2: "For every picture that reads, what each port claims, how a configuration request is converted and where each packet ends
 -- are as the FPB and ARI change notices say .. with every port crossed named in order": each claim and each conversion is the
--- definition's, and so is the walk
+-- definition's, and so is the walk. 02, Item 3: "The claim answer must name all decoders that claim the target, not yes or no.
+-- Everything that asked yes or no now means "at least one"."
 pub record Demand2 (s : List ℕ) : Type 0 where
-  pub claims : (h : Header) → reading s ≡ Read h → (port : ℕ) → port < h .count → (t : Target)
-      → claimAnswer s port t ≡ Claimed (chassisOf s .claims port t)
-  pub converts : (h : Header) → reading s ≡ Read h → (port : ℕ) → port < h .count → (rid : Rid)
-      → convertAnswer s port rid ≡ Converted (chassisOf s .conversion port (Id rid))
+  pub claims : (h : Header) → reading s ≡ Read h → (port kind target : ℕ) → claimAskedWrongly (h .count) port kind target ≡ false
+      → claimAnswer s port kind target ≡ Claimed (holdOf (chassisOf s) (targetAsked kind target) port)
+  pub joined : (port : ℕ) (t : Target) → chassisOf s .claims port t ≡ atLeastOne (chassisOf s .decoders port t)
+  pub held : (port : ℕ) (t : Target) → holds (chassisOf s) t port ≡ isHeld (holdOf (chassisOf s) t port)
+  pub converts : (h : Header) → reading s ≡ Read h → (port target : ℕ) → convertAskedWrongly (h .count) port target ≡ false
+      → convertAnswer s port target ≡ Converted (chassisOf s .conversion port (Id (record { 0 = target })))
   pub walks : WalksIn (chassisOf s) (WalkGives s)
 
 -- the same of a picture and a patch: the picture with the vectors put in reads, its registers are the picture's, and each of its

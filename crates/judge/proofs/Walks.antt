@@ -1,10 +1,10 @@
 -- What a walk that is not refused has, and that the call's answer is the only one it may give. Assumes nothing.
-use Prim.Native.Nat.{ℕ, _<_, _≤_, _^_}
+use Prim.Native.Nat.{ℕ, _<_, _≤_}
 use mathlib.Core.Bool.{Bool, true, false, not, _||_}
 use mathlib.Core.List.{List, []}
 use mathlib.Core.Path.{_≡_, refl, sym, ap, subst, subst₂, _∙_}
 use native.Mathlib.Omega.{arith}
-use borrow.Author.Tests.{eqb-true, ne-eqb, leb-false, ltb-true, not-false}
+use borrow.Author.Tests.{eqb-true, ltb-true, not-false}
 use lib.Dec.{eqb, ltb}
 use Rattle.least.proofs.Laws.{impossible}
 use Rattle.chassis.specs.declared.Packet.{Packet}
@@ -32,7 +32,8 @@ use Rattle.routes.specs.declared.Walked.{Walked}
 use Rattle.routes.specs.Routes.{Arrives}
 use Rattle.judge.specs.declared.WalkAnswer.{WalkAnswer}
 use Rattle.judge.specs.Refusals.{number16}
-use Rattle.judge.specs.Walking.{packetOf, idTooLarge, isStart, askedWrongly, refusedWalk, endedWalk, AskedGives, ReadGives, WalkGives}
+use Rattle.judge.specs.Asking.{idTooLarge}
+use Rattle.judge.specs.Walking.{packetOf, isStart, askedWrongly, refusedWalk, endedWalk, AskedGives, ReadGives, WalkGives}
 
 module _ (tree : Tree) (kind start target : ℕ) (asked : askedWrongly tree kind start target ≡ false) where
   parts : ((ltb 2 kind || idTooLarge kind target) ≡ false) × (not (isStart tree start) ≡ false)
@@ -44,11 +45,6 @@ module _ (tree : Tree) (kind start target : ℕ) (asked : askedWrongly tree kind
 
   start-right : isStart tree start ≡ true
   start-right = not-false (isStart tree start) (parts .1)
-
--- an ID that is not too large has 16 bits
-pub id-small : (kind target : ℕ) → (kind ≡ 1 → ⊥) → idTooLarge kind target ≡ false → target < 2 ^ 16
-unfolding idTooLarge
-id-small kind target other fits = leb-false (2 ^ 16) target (rw (ne-eqb kind 1 other) at fits)
 
 -- a start is 255 or a port
 pub data Starts (tree : Tree) (start : ℕ) : Type 0 where

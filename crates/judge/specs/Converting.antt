@@ -1,10 +1,9 @@
 -- The conversion call: numbers 1 to 10, then 16, then 01, "A port about to be crossed decides". The paper's words for what it
 -- decides are the names of Conversion's cases: not claimed, Type 0, Type 1 passes, Unsupported Request.
-use Prim.Native.Nat.{ℕ}
-use mathlib.Core.Bool.{cond}
+use Prim.Native.Nat.{ℕ, _^_}
+use mathlib.Core.Bool.{Bool, cond, _||_}
 use mathlib.Core.List.{List}
-use lib.Dec.{ltb}
-use Rattle.ids.specs.declared.Rid.{Rid}
+use lib.Dec.{leb}
 use Rattle.ids.specs.declared.Target.the-variants.{Id}
 use Rattle.picture.specs.declared.Reading.{Reading}
 use Rattle.picture.specs.declared.Reading.the-variants.{Read, Refused as NotRead}
@@ -14,12 +13,17 @@ use Rattle.judge.specs.declared.ConvertAnswer.{ConvertAnswer}
 use Rattle.judge.specs.declared.ConvertAnswer.the-variants.{Refused, Converted}
 use Rattle.judge.specs.Refusals.{number16}
 
-unfoldable pub convertOf : Reading → List ℕ → ℕ → Rid → ConvertAnswer
-convertOf (NotRead r) s port rid = Refused r
-convertOf (Read h) s port rid = cond (ltb port (h .count)) (Converted (chassisOf s .conversion port (Id rid))) (Refused number16)
+-- 16: a port beyond the count, an ID over FFFFh
+unfoldable pub convertAskedWrongly : ℕ → ℕ → ℕ → Bool
+convertAskedWrongly count port target = leb count port || leb (2 ^ 16) target
 
-abbrev pub convertAnswer : List ℕ → ℕ → Rid → ConvertAnswer
-convertAnswer s port rid = convertOf (reading s) s port rid
+unfoldable pub convertOf : Reading → List ℕ → ℕ → ℕ → ConvertAnswer
+convertOf (NotRead r) s port target = Refused r
+convertOf (Read h) s port target =
+    cond (convertAskedWrongly (h .count) port target) (Refused number16) (Converted (chassisOf s .conversion port (Id (record { 0 = target }))))
+
+abbrev pub convertAnswer : List ℕ → ℕ → ℕ → ConvertAnswer
+convertAnswer s port target = convertOf (reading s) s port target
 
 -- the paper's number of an answer
 abbrev pub convertNumber : ConvertAnswer → ℕ

@@ -1,3 +1,4 @@
+pub mod Asking
 pub mod Refusals
 pub mod Claiming
 pub mod Converting

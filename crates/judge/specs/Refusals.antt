@@ -3,7 +3,7 @@ use mathlib.Core.Bool.{cond, _&&_}
 use lib.Dec.{leb}
 use Rattle.ids.specs.Ids.{noPort}
 use Rattle.chassis.specs.declared.Finding.{Finding}
-use Rattle.chassis.specs.declared.Holders.the-variants.{Nobody, Only}
+use Rattle.chassis.specs.declared.Named.the-variants.{NoPort, Port}
 use Rattle.chassis.specs.declared.Shown.the-variants.{NoTarget}
 use Rattle.picture.specs.declared.Refusal.{Refusal}
 
@@ -15,4 +15,4 @@ number16 = record { number = 16; port = noPort }
 -- numbers 6 to 10 name a port, 1 to 5, 16 and 30 to 32 none
 unfoldable pub refusalFinding : Refusal → Finding
 refusalFinding r =
-    record { number = r .number; target = NoTarget; ports = cond (leb 6 (r .number) && leb (r .number) 10) (Only (r .port)) Nobody }
+    record { number = r .number; target = NoTarget; ports = cond (leb 6 (r .number) && leb (r .number) 10) (Port (r .port)) NoPort }

@@ -4,14 +4,9 @@ use Words.*
 
 -- "packet kind 0 ID, 1 address, 2 configuration request"
 unfoldable pub packetOf : ℕ → ℕ → Packet
-packetOf kind target =
-    cond (eqb kind 1) (Plain (Addr target))
-    (cond (eqb kind 0) (Plain (Id (record { 0 = target }))) (Config (record { 0 = target })))
+packetOf kind target = cond (ltb kind 2) (Plain (targetAsked kind target)) (Config (record { 0 = target }))
 
 -- 16: "packet kind over 2, an ID over FFFFh, or start not 255 and not a device port"
-unfoldable pub idTooLarge : ℕ → ℕ → Bool
-idTooLarge kind target = not (eqb kind 1) && leb (2 ^ 16) target
-
 unfoldable pub isStart : Tree → ℕ → Bool
 isStart tree start = eqb start root || isDevicePort tree start
 

@@ -7,24 +7,30 @@ use ids::Rid;
 use ids::Target;
 use picture::Reading;
 ghost use mathlib.Core.Path.{_≡_};
-ghost use Rattle.judge.specs.Converting.{convertAnswer};
+ghost use Rattle.judge.specs.Converting.{convertAskedWrongly, convertAnswer};
 
-// Numbers 1 to 10, then 16 for a port beyond the count, else what the port makes of the request.
-pub fn convert(s: &[u8], port: u32, rid: Rid) -> ConvertAnswer
-    ensures { λ r. ⌜ r ≡ convertAnswer (now (s .entry)) port rid ⌝ }
+// Number 16.
+fn convert_asked_wrongly(count: u32, port: u32, target: u64) -> bool
+    ensures { λ r. ⌜ r ≡ convertAskedWrongly count port target ⌝ }
+{
+    (count <= port) | (65536 <= target)
+}
+
+// Numbers 1 to 10, then 16, else what the port makes of the request.
+pub fn convert(s: &[u8], port: u32, target: u64) -> ConvertAnswer
+    ensures { λ r. ⌜ r ≡ convertAnswer (now (s .entry)) port target ⌝ }
 {
     let got = picture::read(s);
     let Reading::Read(h) = got else {
         return ConvertAnswer::Refused(refusal_of(got));
     };
-    let count = h.count as u32;
-    if count <= port {
+    if convert_asked_wrongly(h.count as u32, port, target) {
         return ConvertAnswer::Refused(number_16());
     }
     ConvertAnswer::Converted(claims::conversion(
         s,
         patches::none(s),
         PortNo(port as u8),
-        Target::Id(rid),
+        Target::Id(Rid(target as u16)),
     ))
 }

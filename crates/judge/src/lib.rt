@@ -1,4 +1,5 @@
 // The library's calls: any bytes, any numbers, and one answer for each, with a file for every call and one for the trials.
+mod asking;
 mod checking;
 mod claiming;
 mod converting;
@@ -8,6 +9,7 @@ mod walking;
 
 use chassis::Conversion;
 use chassis::End;
+use chassis::Hold;
 use chassis::Verdict;
 pub use checking::check;
 pub use checking::check_finding;
@@ -22,10 +24,10 @@ pub use trying::trial_part;
 pub use trying::trial_walk;
 pub use walking::walk;
 
-// Whether a port claims a target, or why that is not answered.
+// The decoders of a port that claim a target, and beside them whether it is the port's own, or why that is not answered.
 pub enum ClaimAnswer {
     Refused(Refusal),
-    Claimed(bool),
+    Claimed(Hold),
 }
 
 // What a port makes of a configuration request, or why that is not answered.

@@ -1,6 +1,6 @@
 // The refusals that the calls share: those of the reading, and number 16; and what is said of a refusal.
 use chassis::Finding;
-use chassis::Holders;
+use chassis::Named;
 use chassis::Shown;
 use ids::PortNo;
 use picture::Reading;
@@ -31,14 +31,14 @@ pub fn number_16() -> Refusal
 }
 
 // The port that a refusal names: one of numbers 6 to 10 names it.
-fn named_by(r: Refusal) -> Holders
+fn named_by(r: Refusal) -> Named
     ensures { λ h. ⌜ h ≡ refusalFinding r .ports ⌝ }
 {
     let port = r.port;
     if (6 <= r.number) & (r.number <= 10) {
-        return Holders::Only(port);
+        return Named::Port(port);
     }
-    Holders::Nobody
+    Named::NoPort
 }
 
 // What is said of a refusal.

@@ -1,13 +1,14 @@
 // The walk call: where a packet goes, from the host or from a device port.
 use crate::Outcome;
 use crate::WalkAnswer;
+use crate::asking::id_too_large;
+use crate::asking::target_asked;
 use crate::refusals::number_16;
 use crate::refusals::refusal_of;
 use chassis::Packet;
 use chassis::Whereabouts;
 use ids::PortNo;
 use ids::Rid;
-use ids::Target;
 use paths::Path;
 use picture::Reading;
 use picture::Refusal;
@@ -19,31 +20,21 @@ ghost use Rattle.chassis.specs.Walk.{comeTo};
 ghost use Rattle.chassis.proofs.Tree.{Sane};
 ghost use Rattle.trees.specs.Trees.{countOf, treeOf};
 ghost use Rattle.claims.specs.Over.{chassisOver};
-ghost use Rattle.judge.specs.Walking.{packetOf, idTooLarge, isStart, askedWrongly, refusedWalk, endedWalk, AskedGives, WalkGives};
+ghost use Rattle.judge.specs.Asking.{idTooLarge};
+ghost use Rattle.judge.specs.Walking.{packetOf, isStart, askedWrongly, refusedWalk, endedWalk, AskedGives, WalkGives};
 
 // The start of a packet that comes from the host.
 const ROOT_START: u32 = 255;
-
-// An ID over FFFFh; an address may have 64 bits.
-fn id_too_large(kind: u32, target: u64) -> bool
-    ensures { λ r. ⌜ r ≡ idTooLarge kind target ⌝ }
-{
-    (kind != 1) & (65536 <= target)
-}
 
 // The packet of a kind, 0 to 2, for a target that is no ID over FFFFh.
 fn packet_of(kind: u32, target: u64) -> Packet
     requires { ⌜ idTooLarge kind target ≡ false ⌝ }
     ensures { λ r. ⌜ r ≡ packetOf kind target ⌝ }
 {
-    if kind == 1 {
-        return Packet::Plain(Target::Addr(target));
+    if kind < 2 {
+        return Packet::Plain(target_asked(kind, target));
     }
-    let rid = Rid(target as u16);
-    if kind == 0 {
-        return Packet::Plain(Target::Id(rid));
-    }
-    Packet::Config(rid)
+    Packet::Config(Rid(target as u16))
 }
 
 // Whether a packet may start there: at the root, or below a device port.

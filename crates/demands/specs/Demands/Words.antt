@@ -7,13 +7,12 @@ pub use mathlib.Core.Path.{_≡_}
 pub use lib.Dec.{eqb}
 pub use lib.ListN.{length, replicate}
 pub use Rattle.ids.specs.declared.PortNo.{PortNo}
-pub use Rattle.ids.specs.declared.Rid.{Rid}
 pub use Rattle.ids.specs.declared.Target.{Target}
 pub use Rattle.ids.specs.declared.Target.the-variants.{Id}
 pub use Rattle.ids.specs.Ids.{noPort}
 pub use Rattle.chassis.specs.declared.Verdict.{Verdict}
 pub use Rattle.chassis.specs.declared.End.{End}
-pub use Rattle.chassis.specs.Chassis.{Chassis}
+pub use Rattle.chassis.specs.Chassis.{Chassis, holds, atLeastOne, holdOf, isHeld}
 pub use Rattle.chassis.specs.Findings.{Clashing, Says}
 pub use Rattle.chassis.specs.OneEnd.{InRange, OneEnd}
 pub use Rattle.chassis.specs.Walk.{Walk, comeTo}
@@ -36,9 +35,10 @@ pub use Rattle.judge.specs.declared.ClaimAnswer.the-variants.{Claimed}
 pub use Rattle.judge.specs.declared.ConvertAnswer.the-variants.{Converted}
 pub use Rattle.judge.specs.declared.WalkAnswer.{WalkAnswer}
 pub use Rattle.judge.specs.declared.Outcome.the-variants.{Ended}
+pub use Rattle.judge.specs.Asking.{targetAsked}
 pub use Rattle.judge.specs.Checking.{checkAnswer, checkNumber}
-pub use Rattle.judge.specs.Claiming.{claimAnswer, claimNumber}
-pub use Rattle.judge.specs.Converting.{convertAnswer, convertNumber}
+pub use Rattle.judge.specs.Claiming.{claimAskedWrongly, claimAnswer, claimNumber}
+pub use Rattle.judge.specs.Converting.{convertAskedWrongly, convertAnswer, convertNumber}
 pub use Rattle.judge.specs.Ends.{outcomeNumber}
 pub use Rattle.judge.specs.Trying.{trialCheck, TrialGives, trialPart, partNumber}
 pub use Rattle.judge.specs.Walking.{packetOf, WalkGives}

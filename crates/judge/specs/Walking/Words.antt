@@ -1,10 +1,9 @@
 -- The words of Walking, from where they are defined.
-pub use Prim.Native.Nat.{ℕ, _^_}
-pub use mathlib.Core.Bool.{Bool, true, false, not, cond, _&&_, _||_}
+pub use Prim.Native.Nat.{ℕ}
+pub use mathlib.Core.Bool.{Bool, true, false, not, cond, _||_}
 pub use mathlib.Core.List.{List, []}
 pub use mathlib.Core.Path.{_≡_}
-pub use lib.Dec.{eqb, leb, ltb}
-pub use Rattle.ids.specs.declared.Target.the-variants.{Id, Addr}
+pub use lib.Dec.{eqb, ltb}
 pub use Rattle.chassis.specs.declared.Packet.{Packet}
 pub use Rattle.chassis.specs.declared.Packet.the-variants.{Plain, Config}
 pub use Rattle.chassis.specs.Chassis.{Chassis}
@@ -21,4 +20,5 @@ pub use Rattle.routes.specs.Routes.{Arrives}
 pub use Rattle.judge.specs.declared.Outcome.{Outcome}
 pub use Rattle.judge.specs.declared.Outcome.the-variants.{Refused, Ended}
 pub use Rattle.judge.specs.declared.WalkAnswer.{WalkAnswer}
+pub use Rattle.judge.specs.Asking.{targetAsked, idTooLarge}
 pub use Rattle.judge.specs.Refusals.{number16}

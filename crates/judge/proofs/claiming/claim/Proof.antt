@@ -1,67 +1,48 @@
-use Rattle.judge.specs.declared.ClaimAnswer.the-variants.{Refused, Claimed}
-use Rattle.chassis.specs.Chassis.{Chassis}
-use Rattle.judge.specs.Claiming.{claimOf}
-use borrow.Author.Tests.{le-ltb, lt-ltb}
-use Rattle.picture.proofs.WhatReads.{count-few}
-use mathlib.Core.Path.{sym, ap, _∙_}
-use native.Mathlib.Omega.{arith}
 use Rattle.claims.proofs.Over.{unpatched}
+use native.Mathlib.Omega.{arith}
+use Rattle.picture.proofs.WhatReads.{count-few}
+use Rattle.judge.specs.Claiming.{claimOf}
+use Rattle.chassis.specs.Chassis.{Chassis, holdOf}
+use Rattle.judge.specs.declared.ClaimAnswer.the-variants.{Refused, Claimed}
+use mathlib.Core.Path.{sym, ap, _∙_}
+use Rattle.judge.proofs.Asked.{claim-port, claim-target}
 use borrow.Author.Needs.{needs}
 use Rattle.judge.proofs.claiming.claim.Statement.{statement}
 use Rattle.judge.proofs.claiming.claim.Tie as tie
-
-read-requires : tie.Need-read-requires
-read-requires c κs = search needs
-
-enum-known-got : tie.Need-enum-known-got
-enum-known-got c = search needs
-
-enum-told : tie.Need-enum-told
-enum-told c = search needs
-
-refusal-of-requires : tie.Need-refusal-of-requires
-refusal-of-requires c κs = search needs
 
 returns : tie.Need-returns
 unfolding claimOf
 returns c = rw (← c .before .before .before .read .ensures, c .before .enum-told .given .1) (ap Refused (c .refusal-of .ensures _ (c .before .enum-told .given .1)))
 
-cast-count : tie.Need-cast-count
-cast-count c = search needs
-
-number-16-requires : tie.Need-number-16-requires
-number-16-requires c κs = search needs
-
 returns-2 : tie.Need-returns-2
 unfolding claimOf
-returns-2 c = rw (c .number-16 .ensures, ← c .before .before .before .before .before .before .read .ensures, c .before .before .before .before .got .given .1) (simp (le-ltb _ _ (c .before .if1 .taken)))
+returns-2 c = rw (c .number-16 .ensures, ← c .before .before .before .before .before .before .before .read .ensures, c .before .before .before .before .before .got .given .1, ← c .before .before .claim-asked-wrongly .ensures, c .before .if1 .taken)
 
-none-requires : tie.Need-none-requires
-none-requires c κs = search needs
+cast-t13 : tie.Need-cast-t13
+cast-t13 c = omega (arith, count-few _ _ (sym (c .before .before .before .before .before .before .before .read .ensures) ∙ c .before .before .before .before .before .got .given .1), claim-port _ _ _ _ (sym (c .before .before .claim-asked-wrongly .ensures) ∙ c .before .if1 .left))
 
-cast-t11 : tie.Need-cast-t11
-cast-t11 c = omega (arith, count-few _ _ (sym (c .before .before .before .before .before .before .read .ensures) ∙ c .before .before .before .before .got .given .1))
-
-claims-requires : tie.Need-claims-requires
-claims-requires c κs = search needs
+target-asked-requires : tie.Need-target-asked-requires
+target-asked-requires c κs = claim-target _ _ _ _ (sym (c .before .before .claim-asked-wrongly .ensures) ∙ c .before .if1 .left)
 
 returns-3 : tie.Need-returns-3
 unfolding claimOf
-returns-3 c = rw (← c .before .before .before .before .before .before .before .read .ensures, c .before .before .before .before .before .got .given .1, lt-ltb _ _ (c .before .before .if1 .left)) (ap Claimed (c .claims .ensures ∙ ap (λ (x : Chassis). x .claims (c .before .before .before .before .before .before .before .before .before .args .port) (c .before .before .before .before .before .before .before .before .before .args .t)) (unpatched (c .before .before .before .before .before .before .before .before .before .args .s .now) (c .before .none .result .now) (c .before .none .ensures))))
+returns-3 c = rw (← c .before .before .before .before .before .before .before .before .before .read .ensures, c .before .before .before .before .before .before .before .got .given .1, ← c .before .before .before .before .claim-asked-wrongly .ensures, c .before .before .before .if1 .left, ← c .before .target-asked .ensures) (ap Claimed (c .hold-of .ensures ∙ ap (λ (x : Chassis). holdOf x (c .before .target-asked .result) (c .before .before .before .before .before .before .before .before .before .before .before .args .port)) (unpatched (c .before .before .before .before .before .before .before .before .before .before .before .args .s .now) (c .before .before .none .result .now) (c .before .before .none .ensures))))
 
 pub claim-spec : {M : Type 1} → statement M
 claim-spec =
     tie.close
     (tie.spec
-    read-requires
-    enum-known-got
-    enum-told
-    refusal-of-requires
+    (λ c κs. search needs)
+    (λ c. search needs)
+    (λ c. search needs)
+    (λ c κs. search needs)
     returns
-    cast-count
-    number-16-requires
+    (λ c. search needs)
+    (λ c κs. search needs)
+    (λ c κs. search needs)
     returns-2
-    none-requires
-    cast-t11
-    claims-requires
+    (λ c κs. search needs)
+    cast-t13
+    target-asked-requires
+    (λ c κs. search needs)
     returns-3)

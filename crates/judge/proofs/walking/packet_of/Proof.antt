@@ -1,23 +1,21 @@
-use Rattle.judge.proofs.Walks.{id-small}
-use borrow.Author.Tests.{eq-eqb, ne-eqb}
+use native.Mathlib.Omega.{arith}
 use Rattle.judge.specs.Walking.{packetOf}
+use borrow.Author.Tests.{lt-ltb, le-ltb}
+use Rattle.judge.proofs.Asked.{id-small}
+use borrow.Author.Needs.{needs}
 use Rattle.judge.proofs.walking.packet_of.Statement.{statement}
 use Rattle.judge.proofs.walking.packet_of.Tie as tie
 
 returns : tie.Need-returns
 unfolding packetOf
-returns c = rw (eq-eqb _ _ (c .if1 .taken))
+returns c = rw (lt-ltb _ _ (c .before .if1 .taken), c .target-asked .ensures)
 
-cast-t6 : tie.Need-cast-t6
-cast-t6 c = record { fits = id-small _ _ (c .if1 .left) (c .before .pre) }
+cast-t5 : tie.Need-cast-t5
+cast-t5 c = record { fits = id-small _ _ (λ e. omega (arith, c .if1 .left)) (c .before .pre) }
 
 returns-2 : tie.Need-returns-2
 unfolding packetOf
-returns-2 c = rw (ne-eqb _ _ (c .before .if1 .left), eq-eqb _ _ (c .if2 .taken))
-
-returns-3 : tie.Need-returns-3
-unfolding packetOf
-returns-3 c = rw (ne-eqb _ _ (c .before .if1 .left), ne-eqb _ _ (c .if2 .left))
+returns-2 c = rw (le-ltb _ _ (c .if1 .left))
 
 pub packet-of-spec : {M : Type 1} → statement M
-packet-of-spec = tie.close (tie.spec returns cast-t6 returns-2 returns-3)
+packet-of-spec = tie.close (tie.spec (λ c κs. search needs) returns cast-t5 returns-2)

@@ -1,7 +1,7 @@
-use Rattle.judge.specs.Walking.{idTooLarge}
+use Rattle.judge.specs.Asking.{idTooLarge}
 use mathlib.Core.Path.{refl}
-use Rattle.judge.proofs.walking.id_too_large.Statement.{statement}
-use Rattle.judge.proofs.walking.id_too_large.Tie as tie
+use Rattle.judge.proofs.asking.id_too_large.Statement.{statement}
+use Rattle.judge.proofs.asking.id_too_large.Tie as tie
 
 returns : tie.Need-returns
 unfolding idTooLarge
