@@ -2,6 +2,7 @@
 mod causes;
 mod drawing;
 mod fixed;
+mod holding;
 mod lines;
 mod neighbours;
 mod patching;

@@ -2,6 +2,8 @@
 use crate::causes::say_wrong_settings;
 use crate::causes::say_wrong_starts;
 use crate::fixed::say_fixed;
+use crate::holding::say_decoders;
+use crate::holding::say_holder;
 use crate::patching::say_of_patch;
 use crate::ports::say_number_of;
 use crate::ports::say_port;
@@ -12,7 +14,8 @@ use crate::words::say_number;
 use crate::words::say_target;
 use chassis::Conversion;
 use chassis::Finding;
-use chassis::Holders;
+use chassis::Hold;
+use chassis::Named;
 use chassis::Shown;
 use ids::PortNo;
 use ids::Target;
@@ -111,28 +114,29 @@ fn say_of_port<'a>(s: &'a [u8], patch: &'a [u8], number: u8, p: PortNo) {
 }
 
 // Numbers 13 and 14.
-fn say_stray(s: &[u8], t: Target, p: PortNo) {
+fn say_stray(s: &[u8], t: Target, h: Hold) {
     say_target(t);
     say(b" is held by ");
-    say_port(s, p);
+    say_holder(s, h);
     say(b", and ");
-    say_number_of(parent_at(s, p));
+    say_number_of(parent_at(s, h.port));
     say(b" does not claim it");
 }
 
 // Numbers 11 and 12; a port that claims its own ID is a pair with itself.
-fn say_pair(s: &[u8], t: Target, p: PortNo, q: PortNo) {
-    if p.0 == q.0 {
-        say_port(s, p);
+fn say_pair(s: &[u8], t: Target, h: Hold, k: Hold) {
+    if h.port.0 == k.port.0 {
+        say_port(s, h.port);
         say(b" claims its own ");
         say_target(t);
+        say_decoders(h.decoders, false);
         return;
     }
     say_target(t);
     say(b" is held by ");
-    say_port(s, p);
+    say_holder(s, h);
     say(b" and by ");
-    say_port(s, q);
+    say_holder(s, k);
 }
 
 // The particulars of a number that names no port: one of a patch is 30 or more.
@@ -144,25 +148,28 @@ fn say_unnamed(s: &[u8], patch: &[u8], number: u8) {
     say_of_picture(s, number);
 }
 
-// The particulars of a number, with the target where it shows one.
-fn say_particulars<'a>(s: &'a [u8], patch: &'a [u8], number: u8, shown: Shown, ports: Holders) {
+// The particulars of a number that names its ports by their hold on a target.
+fn say_of_target(s: &[u8], t: Target, ports: Named) {
     match ports {
-        Holders::Nobody => say_unnamed(s, patch, number),
-        Holders::Only(p) => {
-            say(b": ");
-            match shown {
-                Shown::NoTarget => say_of_port(s, patch, number, p),
-                Shown::Least(t) => say_stray(s, t, p),
-            }
-        }
-        Holders::Both(p, q) => {
-            say(b": ");
-            match shown {
-                Shown::NoTarget => {}
-                Shown::Least(t) => say_pair(s, t, p, q),
-            }
-        }
+        Named::Holder(h) => say_stray(s, t, h),
+        Named::Pair(h, k) => say_pair(s, t, h, k),
+        _ => {}
     }
+}
+
+// The particulars of a number, with the target where it shows one.
+fn say_particulars<'a>(s: &'a [u8], patch: &'a [u8], number: u8, shown: Shown, ports: Named) {
+    if let Shown::Least(t) = shown {
+        say(b": ");
+        say_of_target(s, t, ports);
+        return;
+    }
+    if let Named::Port(p) = ports {
+        say(b": ");
+        say_of_port(s, patch, number, p);
+        return;
+    }
+    say_unnamed(s, patch, number);
 }
 
 // The sentence for a finding, on a line of its own.

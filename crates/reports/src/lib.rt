@@ -1,4 +1,8 @@
 // What the programs print of the library's answers.
+mod holders;
+
+pub use holders::claim_text;
+pub use holders::print_holders;
 use judge::Outcome;
 use judge::WalkAnswer;
 use judge::check;

@@ -1,11 +1,12 @@
 -- Lines as they are read on the screen. Assumes nothing.
-use mathlib.Core.Bool.{true}
+use mathlib.Core.Bool.{true, false}
 use mathlib.Core.List.{[], _∷_}
 use mathlib.Core.Path.{_≡_, refl}
 use Rattle.ids.specs.Ids.{portNo}
-use Rattle.ids.specs.declared.Target.the-variants.{Id, Addr}
+use Rattle.ids.specs.declared.Target.the-variants.{Id}
 use Rattle.chassis.specs.declared.Shown.the-variants.{NoTarget, Least}
-use Rattle.chassis.specs.declared.Holders.the-variants.{Nobody, Only, Both}
+use Rattle.chassis.specs.declared.Decoders.{Decoders}
+use Rattle.chassis.specs.declared.Named.the-variants.{NoPort, Port, Pair}
 use Rattle.chassis.specs.declared.End.the-variants.{Device}
 use Rattle.paths.specs.Paths.{pathOf}
 use Rattle.texts.specs.Texts.{ascii, digitsUpTo, decimal}
@@ -13,7 +14,10 @@ use Rattle.texts.specs.Lines.{
   spaced,
   eachSpaced,
   targetWords,
+  decoderWords,
+  holdWords,
   portsWords,
+  holderLine,
   refusedLine,
   reportLines,
   endLine,
@@ -28,17 +32,34 @@ numbers : (decimal 0 ≡ ascii "0") × (decimal 10 ≡ ascii "10") × (decimal 1
 unfolding ascii decimal digitsUpTo
 numbers = (refl, refl, refl)
 
-pair : refusedLine (record { number = 11; target = Least (Id (record { 0 = 0x0308 })); ports = Both (portNo 4) (portNo 10) })
-    ≡ ascii "refused 11 id 0308 ports 4 10"
-unfolding refusedLine targetWords portsWords eachSpaced spaced ascii decimal digitsUpTo
+byBus : Decoders
+byBus = record { bus = true; rid = false; mem = false; pref = false; low = false; high = false }
+
+byRid : Decoders
+byRid = record { bus = false; rid = true; mem = false; pref = false; low = false; high = false }
+
+byAll : Decoders
+byAll = record { bus = true; rid = true; mem = true; pref = true; low = true; high = true }
+
+pair : refusedLine
+    (record {
+      number = 11;
+      target = Least (Id (record { 0 = 0x0300 }));
+      ports = Pair (record { port = portNo 2; own = false; decoders = byBus }) (record { port = portNo 13; own = true; decoders = byRid });
+    })
+    ≡ ascii "refused 11 id 0300 ports 2 by bus 13 by own rid"
+unfolding byBus byRid refusedLine targetWords portsWords holdWords decoderWords spaced ascii decimal digitsUpTo
 pair = refl
 
-stray : refusedLine (record { number = 14; target = Least (Addr 0xfee00000); ports = Only (portNo 0) })
-    ≡ ascii "refused 14 addr 00000000fee00000 ports 0"
-unfolding refusedLine targetWords portsWords eachSpaced spaced ascii decimal digitsUpTo
-stray = refl
+every-word : holderLine (record { port = portNo 0; own = true; decoders = byAll }) ≡ ascii "port 0 by own bus rid mem pref low high"
+unfolding byAll holderLine holdWords decoderWords spaced ascii decimal digitsUpTo
+every-word = refl
 
-clear : reportLines 1 (record { number = 0; target = NoTarget; ports = Nobody }) 10 ≡ ascii "ports 1\nclear"
+lost : refusedLine (record { number = 15; target = NoTarget; ports = Port (portNo 3) }) ≡ ascii "refused 15 ports 3"
+unfolding refusedLine targetWords portsWords spaced ascii decimal digitsUpTo
+lost = refl
+
+clear : reportLines 1 (record { number = 0; target = NoTarget; ports = NoPort }) 10 ≡ ascii "ports 1\nclear"
 unfolding reportLines spaced ascii decimal digitsUpTo
 clear = refl
 

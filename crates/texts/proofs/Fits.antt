@@ -15,8 +15,10 @@ use Rattle.ids.specs.declared.Target.the-variants.{Id, Addr}
 use Rattle.chassis.specs.declared.Finding.{Finding}
 use Rattle.chassis.specs.declared.Shown.{Shown}
 use Rattle.chassis.specs.declared.Shown.the-variants.{NoTarget, Least}
-use Rattle.chassis.specs.declared.Holders.{Holders}
-use Rattle.chassis.specs.declared.Holders.the-variants.{Nobody, Only, Both}
+use Rattle.chassis.specs.declared.Decoders.{Decoders}
+use Rattle.chassis.specs.declared.Hold.{Hold}
+use Rattle.chassis.specs.declared.Named.{Named}
+use Rattle.chassis.specs.declared.Named.the-variants.{NoPort, Port, Holder, Pair}
 use Rattle.chassis.specs.declared.End.{End}
 use Rattle.chassis.specs.declared.End.the-variants.{Device, Function, Host, Unsupported, Doubled}
 use Rattle.paths.specs.declared.Path.{Path}
@@ -26,7 +28,10 @@ use Rattle.texts.specs.Lines.{
   spaced,
   eachSpaced,
   targetWords,
+  decoderWords,
+  holdWords,
   portsWords,
+  holderLine,
   refusedLine,
   reportLines,
   endLine,
@@ -38,10 +43,11 @@ abbrev pub Bytes : List PortNo → Type 0
 Bytes [] = Unit {0}
 Bytes (p ∷ ports) = (p .0 < 256) × Bytes ports
 
-abbrev pub named : Holders → List PortNo
-named Nobody = []
-named (Only p) = p ∷ []
-named (Both p q) = p ∷ q ∷ []
+abbrev pub named : Named → List PortNo
+named NoPort = []
+named (Port p) = p ∷ []
+named (Holder h) = h .port ∷ []
+named (Pair h k) = h .port ∷ k .port ∷ []
 
 abbrev pub EndBytes : End → Type 0
 EndBytes (Device p function) = Bytes (p ∷ []) × (function < 256)
@@ -80,11 +86,41 @@ target-short NoTarget = omega arith
 target-short (Least (Id rid)) = omega arith
 target-short (Least (Addr a)) = omega arith
 
-ports-short : (ports : Holders) → Bytes (named ports) → length (portsWords ports) ≤ 14
+-- a word that may apply is no longer than the word
+word-short : (applies : Bool) (word : List ℕ) (k : ℕ) → length word ≤ k → length (cond applies word []) ≤ k
+word-short true word k short = short
+word-short false word k short = omega arith
+
+decoders-short : (d : Decoders) → length (decoderWords d) ≤ 26
+unfolding decoderWords ascii
+decoders-short d =
+    simp length-append
+    (omega (
+      arith,
+      word-short (d .bus) (ascii " bus") 4 (omega arith),
+      word-short (d .rid) (ascii " rid") 4 (omega arith),
+      word-short (d .mem) (ascii " mem") 4 (omega arith),
+      word-short (d .pref) (ascii " pref") 5 (omega arith),
+      word-short (d .low) (ascii " low") 4 (omega arith),
+      word-short (d .high) (ascii " high") 5 (omega arith),
+    ))
+
+hold-short : (h : Hold) → h .port .0 < 256 → length (holdWords h) ≤ 37
+unfolding holdWords ascii
+hold-short h fit =
+    simp length-append
+    (omega (arith, byte-short (h .port .0) fit, word-short (h .own) (ascii " own") 4 (omega arith), decoders-short (h .decoders)))
+
+ports-short : (ports : Named) → Bytes (named ports) → length (portsWords ports) ≤ 80
 unfolding portsWords ascii
-ports-short Nobody fit = omega arith
-ports-short (Only p) fit = omega (arith, each-short (p ∷ []) fit)
-ports-short (Both p q) fit = omega (arith, each-short (p ∷ q ∷ []) fit)
+ports-short NoPort fit = omega arith
+ports-short (Port p) fit = omega (arith, byte-short (p .0) (fit .0))
+ports-short (Holder h) fit = omega (arith, hold-short h (fit .0))
+ports-short (Pair h k) fit = simp length-append (omega (arith, hold-short h (fit .0), hold-short k (fit .1 .0)))
+
+pub holder-fits : (h : Hold) → h .port .0 < 256 → length (holderLine h) ≤ 191
+unfolding holderLine ascii
+holder-fits h fit = omega (arith, hold-short h fit)
 
 pub refused-fits : (f : Finding) → f .number < 256 → Bytes (named (f .ports)) → length (refusedLine f) ≤ 191
 unfolding refusedLine ascii

@@ -19,11 +19,29 @@ targetWords NoTarget = []
 targetWords (Least (Id rid)) = ascii " id " ++ digits 16 4 (rid .0)
 targetWords (Least (Addr a)) = ascii " addr " ++ digits 16 16 a
 
+-- 02, Item 3: "after each port number, ` by` and those of ` own bus rid mem pref low high` that apply"
+unfoldable pub decoderWords : Decoders → List ℕ
+decoderWords d =
+    cond (d .bus) (ascii " bus") []
+    ++ cond (d .rid) (ascii " rid") []
+    ++ cond (d .mem) (ascii " mem") []
+    ++ cond (d .pref) (ascii " pref") []
+    ++ cond (d .low) (ascii " low") []
+    ++ cond (d .high) (ascii " high") []
+
+unfoldable pub holdWords : Hold → List ℕ
+holdWords h = spaced (h .port .0) ++ ascii " by" ++ cond (h .own) (ascii " own") [] ++ decoderWords (h .decoders)
+
 -- "and ` ports` with each decimal number after a space"
-unfoldable pub portsWords : Holders → List ℕ
-portsWords Nobody = []
-portsWords (Only p) = ascii " ports" ++ eachSpaced (p ∷ [])
-portsWords (Both p q) = ascii " ports" ++ eachSpaced (p ∷ q ∷ [])
+unfoldable pub portsWords : Named → List ℕ
+portsWords NoPort = []
+portsWords (Port p) = ascii " ports" ++ spaced (p .0)
+portsWords (Holder h) = ascii " ports" ++ holdWords h
+portsWords (Pair h k) = ascii " ports" ++ holdWords h ++ holdWords k
+
+-- a port that holds a target: `port 2 by bus`
+unfoldable pub holderLine : Hold → List ℕ
+holderLine h = ascii "port" ++ holdWords h
 
 -- "`refused K`, followed where named by .."
 unfoldable pub refusedLine : Finding → List ℕ

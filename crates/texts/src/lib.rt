@@ -1,7 +1,9 @@
 // What the programs print: each text is a function of the answer, built up piece by piece and written at once.
+mod holds;
 mod report;
 mod walks;
 
+pub use holds::holder_text;
 use ids::PortNo;
 pub use report::refused_text;
 pub use report::report_text;

@@ -1,7 +1,8 @@
 // The lines of the report: two for a picture that passes, one for a refusal.
 use crate::Text;
+use crate::holds::with_hold;
 use chassis::Finding;
-use chassis::Holders;
+use chassis::Named;
 use chassis::Shown;
 use ids::Target;
 ghost use mathlib.Core.Path.{_≡_};
@@ -21,14 +22,15 @@ fn with_target(text: Text, shown: Shown) -> Text
     }
 }
 
-// The text with the ports that a number names.
-fn with_ports(text: Text, ports: Holders) -> Text
+// The text with the ports that a number names, those of a target with why they hold it.
+fn with_ports(text: Text, ports: Named) -> Text
     ensures { λ r. ⌜ r ≡ appended text (portsWords ports) ⌝ }
 {
     match ports {
-        Holders::Nobody => text,
-        Holders::Only(p) => text.with(b" ports").with_port(p),
-        Holders::Both(p, q) => text.with(b" ports").with_port(p).with_port(q),
+        Named::NoPort => text,
+        Named::Port(p) => text.with(b" ports").with_port(p),
+        Named::Holder(h) => with_hold(text.with(b" ports"), h),
+        Named::Pair(h, k) => with_hold(with_hold(text.with(b" ports"), h), k),
     }
 }
 

@@ -10,8 +10,10 @@ pub use Rattle.ids.specs.declared.Target.the-variants.{Id, Addr}
 pub use Rattle.chassis.specs.declared.Finding.{Finding}
 pub use Rattle.chassis.specs.declared.Shown.{Shown}
 pub use Rattle.chassis.specs.declared.Shown.the-variants.{NoTarget, Least}
-pub use Rattle.chassis.specs.declared.Holders.{Holders}
-pub use Rattle.chassis.specs.declared.Holders.the-variants.{Nobody, Only, Both}
+pub use Rattle.chassis.specs.declared.Decoders.{Decoders}
+pub use Rattle.chassis.specs.declared.Hold.{Hold}
+pub use Rattle.chassis.specs.declared.Named.{Named}
+pub use Rattle.chassis.specs.declared.Named.the-variants.{NoPort, Port, Holder, Pair}
 pub use Rattle.chassis.specs.declared.End.{End}
 pub use Rattle.chassis.specs.declared.End.the-variants.{Device, Function, Host, Unsupported, Doubled}
 pub use Rattle.paths.specs.declared.Path.{Path}
