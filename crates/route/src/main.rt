@@ -1,23 +1,15 @@
 // route id|addr|config START TARGET: where a packet goes in the picture on standard input. START is `host` or the number of
 // a device port, TARGET a number in hexadecimal.
-mod numbers;
-
+use arguments::Number;
 use libc::STDERR_FILENO;
 use libc::STDIN_FILENO;
-use numbers::Number;
 
 // The packet kind that a word names: 0 ID, 1 address, 2 configuration request.
 fn kind_of(word: &[u8]) -> Number {
-    if numbers::same(word, b"id") {
-        return Number::Is(0);
-    }
-    if numbers::same(word, b"addr") {
-        return Number::Is(1);
-    }
-    if numbers::same(word, b"config") {
+    if arguments::same(word, b"config") {
         return Number::Is(2);
     }
-    Number::Bad
+    arguments::target_kind(word)
 }
 
 // The start that is the host; no port has this number.
@@ -25,10 +17,10 @@ const HOST: u64 = 255;
 
 // The host, or the number of a port, which 255 is not.
 fn start_of(word: &[u8]) -> Number {
-    if numbers::same(word, b"host") {
+    if arguments::same(word, b"host") {
         return Number::Is(HOST);
     }
-    let Number::Is(port) = numbers::decimal(word) else {
+    let Number::Is(port) = arguments::decimal(word) else {
         return Number::Bad;
     };
     if port == HOST {
@@ -47,7 +39,7 @@ fn argument(i: usize) -> Number {
     if i == 2 {
         return start_of(&word[..n]);
     }
-    numbers::hexadecimal(&word[..n])
+    arguments::hexadecimal(&word[..n])
 }
 
 // What is said to arguments that are not as they must be.
@@ -79,9 +71,9 @@ fn main() {
     let n = io::read_full(STDIN_FILENO, &mut buffer);
     let answer = judge::walk(
         &buffer[..n],
-        numbers::clamped(kind),
-        numbers::clamped(start),
+        arguments::clamped(kind),
+        arguments::clamped(start),
         target,
     );
-    reports::walk_lines(numbers::clamped(kind), answer).print();
+    reports::walk_lines(arguments::clamped(kind), answer).print();
 }

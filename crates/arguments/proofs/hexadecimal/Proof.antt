@@ -1,21 +1,22 @@
 use borrow.Author.Needs.{needs}
 use lib.ListN.{length}
 use Prim.Native.Nat.{_-_}
-use Rattle.route.proofs.numbers.decimal.Statement.{statement}
-use Rattle.route.proofs.numbers.decimal.Tie as tie
+use Rattle.arguments.proofs.hexadecimal.Statement.{statement}
+use Rattle.arguments.proofs.hexadecimal.Tie as tie
 
 abbrev Inv-loop : tie.InvT-loop
-Inv-loop word value₀ i₀ value i = Unit {0}
+Inv-loop word i₀ value₀ i value = Unit {0}
 
 abbrev μ-loop : tie.MeasureT-loop
-μ-loop word value₀ i₀ value i = length word - i
+μ-loop word i₀ value₀ i value = length word - i
 
-pub decimal-spec : {M : Type 1} → statement M
-decimal-spec =
+pub hexadecimal-spec : {M : Type 1} → statement M
+hexadecimal-spec =
     tie.close
     (tie.spec
     Inv-loop
     μ-loop
+    (λ c κs. search needs)
     (λ c. search needs)
     (λ c. search needs)
     (λ c. search needs)

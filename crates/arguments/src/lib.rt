@@ -94,6 +94,17 @@ pub fn decimal(word: &[u8]) -> Number {
     Number::Is(value)
 }
 
+// The kind of target that a word names: 0 ID, 1 address.
+pub fn target_kind(word: &[u8]) -> Number {
+    if same(word, b"id") {
+        return Number::Is(0);
+    }
+    if same(word, b"addr") {
+        return Number::Is(1);
+    }
+    Number::Bad
+}
+
 // A number as 32 bits hold it, the largest of them for any larger: no port has that number.
 pub fn clamped(n: u64) -> u32 {
     if n < 4294967295 { n as u32 } else { 4294967295 }
