@@ -1,4 +1,5 @@
-/* chassis PICTURE [KIND START TARGET]: what the judge says of a picture file, and where one packet goes in it.
+/* chassis PICTURE [KIND START TARGET]: what the judge says of a picture file, and where one packet goes in it. For a target that is
+ * held twice, or astray, it says by what each port holds it.
  * KIND is id, address or config; START is host or a device port's number; TARGET is hexadecimal, with or without 0x.
  * Status: 0 clear, and the packet comes to its end; 1 refused, Unsupported Request or doubled; 2 an argument, the file or the
  * output will not do. */
@@ -14,6 +15,7 @@ static uint8_t picture[65537];
 
 static const char *const kinds[] = {"id", "address", "config"};
 static const char *const ends[] = {"none", "device", "function", "host", "unsupported request", "doubled"};
+static const char *const decoders[] = {"bus", "rid", "mem", "pref", "low", "high"};
 
 struct packet {
     uint32_t kind, start;
@@ -30,14 +32,55 @@ static void print_ports(const uint8_t *answer, const char *before)
     }
 }
 
+/* Whether the number gives a least target, which the ports that it names hold. */
+static int has_target(uint32_t number)
+{
+    return number >= FPB_SHARED_ID && number <= FPB_STRAY_ADDRESS;
+}
+
 static void print_number(uint32_t number, const uint8_t *answer)
 {
     printf("number %u, %s", number, fpb_number_text(number));
     print_ports(answer, "; ");
-    if (number >= FPB_SHARED_ID && number <= FPB_STRAY_ADDRESS) {
+    if (has_target(number)) {
         printf(", least target %llx", (unsigned long long)fpb_least_target(answer));
     }
     printf("\n");
+}
+
+/* The own ID of a port, which is in its record. */
+static uint64_t own_id(uint32_t port)
+{
+    const uint8_t *at = picture + 16 + 56 * (size_t)port + 2;
+    return at[0] + 256u * at[1];
+}
+
+/* Prints by what a port holds a target: as its own ID, by its decoders, or both. */
+static void print_hold(size_t length, uint32_t port, uint32_t kind, uint64_t target)
+{
+    uint32_t claimed;
+    size_t i;
+    if (fpb_claim(picture, length, port, kind, target, &claimed) != FPB_CLEAR) {
+        return;
+    }
+    printf("port %u holds it by%s", port, kind == FPB_ID && own_id(port) == target ? " own" : "");
+    for (i = 0; i < sizeof decoders / sizeof decoders[0]; i++) {
+        if ((claimed >> i & 1) != 0) {
+            printf(" %s", decoders[i]);
+        }
+    }
+    printf("\n");
+}
+
+/* Prints by what the ports hold the target that the check names with 11 to 14; one that claims its own ID is named twice. */
+static void print_holds(size_t length, uint32_t number, const uint8_t *answer)
+{
+    uint8_t port = answer[FPB_AT_PORT], second = answer[FPB_AT_SECOND_PORT];
+    uint32_t kind = number == FPB_SHARED_ID || number == FPB_STRAY_ID ? FPB_ID : FPB_ADDRESS;
+    print_hold(length, port, kind, fpb_least_target(answer));
+    if (second != FPB_NO_PORT && second != port) {
+        print_hold(length, second, kind, fpb_least_target(answer));
+    }
 }
 
 /* Prints the check, and says whether it is clear. */
@@ -48,10 +91,13 @@ static int print_check(size_t length)
     printf("check: ");
     if (number == FPB_CLEAR) {
         printf("clear\n");
-    } else {
-        print_number(number, answer);
+        return 1;
     }
-    return number == FPB_CLEAR;
+    print_number(number, answer);
+    if (has_target(number)) {
+        print_holds(length, number, answer);
+    }
+    return 0;
 }
 
 /* Prints the walk, and says whether it comes to a device, a Function or the host. */

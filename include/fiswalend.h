@@ -3,12 +3,15 @@
  * A picture is a chassis of 1 to 64 PCIe ports as bytes: a header, a record for each port, their vectors; docs/PICTURE.md of the
  * source has its format and the table of numbers. fpb_check says whether it is sound, fpb_walk says where one packet goes in it.
  * fpb_trial_check and fpb_trial_walk say the same of a picture with the vectors of a patch put in, for some of its ports.
+ * fpb_claim says which decoders of one port claim a target, fpb_convert what the port makes of a configuration request.
  * What they return and write is proved, for every picture, every patch, every buffer and every number.
  *
  * What the caller must see to, since no proof reaches this side of the call:
  *   - a pointer is valid for the length that comes with it: to read for a picture or a patch, to read and write for an answer.
  *     At length 0 any pointer will do, NULL too;
- *   - an answer overlaps neither picture nor patch, and nothing changes any of them during a call.
+ *   - the pointer to a uint32_t that a call writes, `decoders` or `decided`, is valid to read and write its 4 bytes, and aligned
+ *     for it; it is never NULL;
+ *   - an answer, or such a uint32_t, overlaps neither picture nor patch, and nothing else changes any of them during a call.
  *
  * The calls keep no state, so any number of threads may call at once. They do not allocate, block, print or stop the program,
  * and use under 4 KiB of stack. They fail in no way but by the numbers below.
@@ -27,9 +30,9 @@ extern "C" {
 
 /* The version of this header and of the archive that it comes with, as numbers and as text. */
 #define FPB_VERSION_MAJOR 1
-#define FPB_VERSION_MINOR 2
+#define FPB_VERSION_MINOR 3
 #define FPB_VERSION_PATCH 0
-#define FPB_VERSION "1.2.0"
+#define FPB_VERSION "1.3.0"
 
 /* The bytes of an answer, and the places in its path. */
 #define FPB_ANSWER_LENGTH 40
@@ -42,7 +45,7 @@ extern "C" {
 /* The number that a call returns. 17 is looked for first, then 1 to 10, then 30 to 32, then 16 or 11 to 15; the first that
  * applies is given, and of several ports the lowest. */
 enum fpb_number {
-    FPB_CLEAR = 0,          /* the check found nothing; the walk came to an end */
+    FPB_CLEAR = 0,          /* the check found nothing; the walk came to an end; the claim or the conversion is answered */
     FPB_LENGTH = 1,         /* the picture has under 72 or over 65,536 bytes */
     FPB_EDITION = 2,        /* its edition is not 1 */
     FPB_COUNT = 3,          /* it has no ports, or over 64 */
@@ -58,18 +61,19 @@ enum fpb_number {
     FPB_STRAY_ID = 13,      /* check: an ID held by a port and not claimed by its parent; names the port, and the ID */
     FPB_STRAY_ADDRESS = 14, /* check: an address held by a port and not claimed by its parent; names the port, and the address */
     FPB_OWN_ID_LOST = 15,   /* check: a port's own ID is not both claimed by its parent and Type 0 there; names the port */
-    FPB_QUESTION = 16,      /* walk: packet kind over 2, an ID over FFFFh, or a start that is no device port and not the host */
+    FPB_QUESTION = 16,      /* walk: packet kind over 2, an ID over FFFFh, or a start that is no device port and not the host;
+                             * claim and conversion: a port that the picture does not have, a kind over 1, an ID over FFFFh */
     FPB_BUFFER = 17,        /* the answer buffer has under 40 bytes; nothing was looked at, nothing written */
     FPB_PATCH_HEADER = 30,  /* trial: a patch under 8 bytes, or without room for its ports, or whose total is not the length given */
     FPB_PATCH_PORTS = 31,   /* trial: a port of the patch stands twice, out of order, or is not in the picture */
     FPB_PATCH_VECTORS = 32  /* trial: an offset is not where the vectors before end, or the last do not end at the total */
 };
 
-/* What is sent, and so what the target of a walk is. */
+/* What is sent, and so what the target of a walk is; of a claim, which takes the first two alone, what its target is. */
 enum fpb_kind {
     FPB_ID = 0,     /* a packet routed by ID; the target is an ID */
     FPB_ADDRESS = 1, /* a packet routed by address; the target is an address */
-    FPB_CONFIG = 2  /* a configuration request; the target is an ID */
+    FPB_CONFIG = 2  /* a configuration request; the target is an ID; no kind of a claim */
 };
 
 /* Where a packet ends. */
@@ -80,6 +84,25 @@ enum fpb_end {
     FPB_END_HOST = 3,        /* the host */
     FPB_END_UNSUPPORTED = 4, /* Unsupported Request at the port named */
     FPB_END_DOUBLED = 5      /* held twice, by the two ports named, the lower first */
+};
+
+/* The decoders of a port, a bit each: an ID is claimed by the first two, an address by the others, and by these only with Memory
+ * Space Enable set. Behind each the word that `fpb report` and `fpb claims` print for it. */
+enum fpb_decoder {
+    FPB_BUS = 1,   /* Secondary and Subordinate Bus Number: bus */
+    FPB_RID = 2,   /* the RID vector: rid */
+    FPB_MEM = 4,   /* Memory Base and Limit: mem */
+    FPB_PREF = 8,  /* Prefetchable Memory Base and Limit: pref */
+    FPB_LOW = 16,  /* the MEM Low vector, below 4 GiB: low */
+    FPB_HIGH = 32  /* the MEM High vector, from 4 GiB on: high */
+};
+
+/* What a port makes of a configuration request that would cross it downward. */
+enum fpb_conversion {
+    FPB_NOT_CLAIMED = 0,        /* the port does not claim the ID */
+    FPB_TYPE_0 = 1,             /* it passes as Type 0: its target is right below the port */
+    FPB_TYPE_1 = 2,             /* it passes as Type 1: its target is further down */
+    FPB_UNSUPPORTED_REQUEST = 3 /* it does not pass */
 };
 
 /* Where the bytes of an answer are. */
@@ -124,6 +147,21 @@ uint32_t fpb_trial_check(const uint8_t *picture, size_t picture_len, const uint8
 uint32_t fpb_trial_walk(const uint8_t *picture, size_t picture_len, const uint8_t *patch, size_t patch_len, uint8_t *answer,
                         size_t answer_len, uint32_t kind, uint32_t start, uint64_t target);
 
+/* Which decoders of a port claim a target: an ID (kind FPB_ID) or an address (kind FPB_ADDRESS). Returns 0, and *decoders is then
+ * the sum of those that do (enum fpb_decoder): 0 means that the port does not claim the target. Else a number, and *decoders is
+ * kept: 1 to 10, then 16 for a port that the picture does not have, a kind over 1, or an ID over FFFFh.
+ *
+ * A port's own ID is no claim and no bit: a port that holds an ID, as those do that the check names with 11 and 13, holds it as its
+ * own, by the decoders, or both. Its own ID stands in its record, at byte 16 + 56 * port + 2 of the picture, little-endian.
+ *
+ * This call and the next speak of the picture alone, also of a port that a trial call has named: the vectors of a patch are not
+ * looked at. The picture must read, and need not be sound. */
+uint32_t fpb_claim(const uint8_t *picture, size_t picture_len, uint32_t port, uint32_t kind, uint64_t target, uint32_t *decoders);
+
+/* What a port makes of a configuration request for an ID. Returns 0, and *decided is then the conversion (enum fpb_conversion).
+ * Else a number, and *decided is kept: 1 to 10, then 16 for a port that the picture does not have, or a target over FFFFh. */
+uint32_t fpb_convert(const uint8_t *picture, size_t picture_len, uint32_t port, uint64_t target, uint32_t *decided);
+
 /* The port at place i of an answer's path, i under the number of crossings, in crossing order. */
 static inline uint8_t fpb_crossed(const uint8_t *answer, size_t i)
 {
@@ -161,7 +199,7 @@ static inline const char *fpb_number_text(uint32_t number)
         "a port holds an ID that its parent does not claim",
         "a port holds an address that its parent does not claim",
         "a port's own ID is not both claimed and made Type 0 by its parent",
-        "a packet kind, an ID, a start or a port was asked for that there is not",
+        "a kind, an ID, a start or a port was asked for that there is not",
         "the answer buffer is shorter than 40 bytes",
         NULL, NULL, NULL, NULL, NULL, NULL, NULL, NULL, NULL, NULL, NULL, NULL, /* 18 to 29 */
         "the patch is too short for its header or its list of ports, or the total length in its header is not its length",

@@ -1,5 +1,5 @@
 #!/usr/bin/env bash
-# The archive from C: installs it, compiles the header, the test program and the example, links them with it and runs them. The
+# The archive from C: installs it, compiles the header, the test programs and the example, links them with it and runs them. The
 # kit's own clang, linker and loader do this on either kind of machine, on Arm under the kit's emulator. A compiler of the host
 # compiles them too, and on x86-64 links and runs them. Last line: N passed, M failed.
 set -u
@@ -22,15 +22,15 @@ expect() {
     fi
 }
 
-# calls RUN..: runs the test program, and counts its own tests
-calls() {
-    "$@" samples tests/number-texts >"$work/printed" 2>&1
+# counts COMMAND..: runs a test program, and counts its own tests
+counts() {
+    "$@" >"$work/printed" 2>&1
     grep -v ' passed, ' "$work/printed"
     if [[ $(tail -n 1 "$work/printed") =~ ^([0-9]+)\ passed,\ ([0-9]+)\ failed$ ]]; then
         passed=$((passed + BASH_REMATCH[1])) failed=$((failed + BASH_REMATCH[2]))
     else
         failed=$((failed + 1))
-        echo "c: the test program did not come to its end"
+        echo "c: the test program did not come to its end: $*"
     fi
 }
 
@@ -51,6 +51,9 @@ to_full() { "$@" >/dev/full; }
 example() {
     local chain='number 7, a port has more than 15 ports above it in its chain; port 16'
     local shared='number 12, an address has two holders at one place; port 2 and port 3, least target e0500000'
+    local own='number 11, an ID has two holders at one place, or a port claims its own ID'
+    local stray='number 13, a port holds an ID that its parent does not claim'
+    shared="$shared/port 2 holds it by low/port 3 holds it by low"
     prints 0 'check: clear/walk: device port 2 Function 5, crossing 0 1 2/' "$@" samples/switch.picture config host 0305
     prints 0 'check: clear/walk: host, crossing nothing/' "$@" samples/switch.picture address host e0000000
     prints 0 'check: clear/' "$@" samples/switch.picture
@@ -58,6 +61,10 @@ example() {
     prints 1 "check: $shared/walk: host, crossing nothing/" "$@" samples/shared-granule.picture address host 0
     prints 1 "check: $shared/walk: doubled port 2 and port 3, crossing 0 1/" \
         "$@" samples/shared-granule.picture address host e0500000
+    prints 1 "check: $own; port 0 and port 0, least target 108/port 0 holds it by own bus/" "$@" samples/own-id-claimed.picture
+    prints 1 "check: $stray; port 1, least target 200/port 1 holds it by bus/" "$@" samples/stray-id.picture
+    prints 1 "check: $stray; port 1, least target 8/port 1 holds it by own/" \
+        "$@" samples/chain-of-16.picture
     prints 1 "check: $chain/walk: $chain/" "$@" samples/chain-of-17.picture id 4 0300
     prints 1 'check: number 1, the picture is shorter than 72 bytes or longer than 65,536/' "$@" samples/short.picture
     prints 2 '|chassis: samples/none cannot be opened/' "$@" samples/none
@@ -68,7 +75,7 @@ example() {
 
 # example_words RUN..: the example takes whole words that fit, and nothing else
 example_words() {
-    local question='number 16, a packet kind, an ID, a start or a port was asked for that there is not' word
+    local question='number 16, a kind, an ID, a start or a port was asked for that there is not' word
     for word in mail ID '' 'id '; do
         prints 2 "|chassis: KIND is '$word': id, address or config is wanted/" "$@" samples/switch.picture "$word" host 0300
     done
@@ -94,40 +101,44 @@ man_numbers() {
 
 strict=(-Wall -Wextra -Wpedantic -Werror)
 languages="c:c99 c:c11 c++:c++11 c++:c++17"
+programs="tests/c/calls.c tests/c/claims.c examples/chassis.c"
 
-# compiled COMMAND..: that the header by itself and the test program compile as each language
+# compiled COMMAND..: that the header by itself and the test programs compile as each language
 compiled() {
-    local language words
+    local language words file
     for language in $languages; do
         words=(-x "${language%%:*}" "-std=${language#*:}" "${strict[@]}")
-        expect "header.c as ${language#*:}, by $1" "$@" "${words[@]}" tests/c/header.c
-        expect "calls.c as ${language#*:}, by $1" "$@" "${words[@]}" tests/c/calls.c
+        for file in tests/c/*.c; do expect "$file as ${language#*:}, by $1" "$@" "${words[@]}" "$file"; done
     done
 }
 
 by_kit() {
     local words=(-isystem tests/c/headers -I "$work/lib/include") program
     compiled kit_cc "$work/object.o" "${words[@]}"
-    for program in tests/c/calls.c examples/chassis.c; do
+    for program in $programs; do
         expect "$program by the kit's clang" kit_cc "$work/object.o" -std=c99 "${strict[@]}" "${words[@]}" "$program"
         expect "$program by the kit's linker" kit_link "$work/$(basename "$program" .c)" "$work/object.o" "$work/lib/lib/libfiswalend.a"
     done
-    calls run_x86 "$work/calls"
+    counts run_x86 "$work/calls" samples tests/number-texts
+    counts run_x86 "$work/claims" samples
     example run_x86 "$work/chassis"
     example_words run_x86 "$work/chassis"
 }
 
 # finds the installed library as a C project does, and links it
 by_host() {
-    local words=(-I "$work/lib/include") libs=(-L "$work/lib/lib" -lfiswalend)
+    local words=(-I "$work/lib/include") libs=(-L "$work/lib/lib" -lfiswalend) program
     if command -v pkg-config >/dev/null; then
         export PKG_CONFIG_PATH=$work/lib/lib/pkgconfig
         read -ra words < <(pkg-config --cflags fiswalend)
         read -ra libs < <(pkg-config --libs fiswalend)
     fi
-    expect "calls.c by the host" cc -std=c99 "${strict[@]}" "${words[@]}" tests/c/calls.c "${libs[@]}" -o "$work/calls-host"
-    calls "$work/calls-host"
-    expect "chassis.c by the host" cc -std=c99 "${strict[@]}" "${words[@]}" examples/chassis.c "${libs[@]}" -o "$work/chassis-host"
+    for program in $programs; do
+        expect "$program by the host" cc -std=c99 "${strict[@]}" "${words[@]}" "$program" "${libs[@]}" \
+            -o "$work/$(basename "$program" .c)-host"
+    done
+    counts "$work/calls-host" samples tests/number-texts
+    counts "$work/claims-host" samples
     example "$work/chassis-host"
     example_words "$work/chassis-host"
 }

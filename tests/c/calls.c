@@ -1,24 +1,16 @@
 /* calls SAMPLES TEXTS: calls the archive on the pictures of a folder and compares every byte; holds the text of each number against
  * a file, one `K text` to a line. Last line: N passed, M failed. */
-#include <stdio.h>
-#include <string.h>
+#include "common.h"
 
-#include "fiswalend.h"
-
-#define KEPT 0xA5
 #define ROOM 100
 #define UNUSED {0}
 #define ROWS 3
 #define SHIFTS 8
 
-static uint8_t picture[65537];
-static uint8_t picture_before[65537];
-static size_t picture_len;
 static uint8_t patch_room[70000 + SHIFTS];
 static uint8_t patch_before[sizeof patch_room];
 static const uint8_t *patch;
 static size_t patch_len;
-static unsigned passed, failed;
 
 struct check_case {
     const char *sample;
@@ -250,43 +242,10 @@ static const struct patch_case empty_patch = {8, 0, 8, NONE, NO_ENTRY};
 
 static const size_t lengths[] = {0, 39, 40, 41, 100};
 
-#define COUNT(of) (sizeof(of) / sizeof((of)[0]))
-
-/* Counts one test, and gives it back. */
-static int counted(int holds)
-{
-    ++*(holds ? &passed : &failed);
-    return holds;
-}
-
 static void expect(int holds, const char *what, const char *sample, size_t length)
 {
     if (!counted(holds)) {
         printf("%s, %s, a buffer of %u bytes\n", sample, what, (unsigned)length);
-    }
-}
-
-static void load(const char *folder, const char *sample)
-{
-    char name[512];
-    FILE *file;
-    snprintf(name, sizeof name, "%s/%s.picture", folder, sample);
-    file = fopen(name, "rb");
-    picture_len = 0;
-    expect(file != NULL, "opened", sample, 0);
-    if (file != NULL) {
-        picture_len = fread(picture, 1, sizeof picture, file);
-        fclose(file);
-    }
-    memcpy(picture_before, picture, sizeof picture);
-}
-
-/* Little-endian, 4 bytes. */
-static void put_u32(uint8_t *at, uint32_t number)
-{
-    int i;
-    for (i = 0; i < 4; i++) {
-        at[i] = (uint8_t)(number >> 8 * i & 255);
     }
 }
 
@@ -352,7 +311,7 @@ static void compare(const char *sample, size_t length, uint32_t number, const ui
 {
     expect(number == (length < FPB_ANSWER_LENGTH ? (uint32_t)FPB_BUFFER : wanted[FPB_AT_NUMBER]), "the number", sample, length);
     expect(memcmp(answer, wanted, ROOM) == 0, "the bytes", sample, length);
-    expect(memcmp(picture, picture_before, sizeof picture) == 0, "the picture unchanged", sample, length);
+    expect(picture_kept(), "the picture unchanged", sample, length);
     expect(memcmp(patch_room, patch_before, sizeof patch_room) == 0, "the patch unchanged", sample, length);
 }
 
@@ -441,7 +400,7 @@ static void load_changed(const char *folder, const char *sample, size_t at, uint
     if (at != 0) {
         picture[at] = byte;
     }
-    memcpy(picture_before, picture, sizeof picture);
+    keep_picture();
 }
 
 /* Patches that read, at addresses of every alignment. */
@@ -574,12 +533,7 @@ static void try_sets(const char *folder)
 static void build_roots(uint32_t count, uint32_t capabilities, uint32_t rid_control_1, uint32_t bytes)
 {
     uint32_t vectors_at = 16 + 56 * count, port;
-    memset(picture, 0, sizeof picture);
-    picture_len = vectors_at + bytes * count;
-    put_u32(picture, 1 | count << 16);
-    put_u32(picture + 4, (uint32_t)picture_len);
-    put_u32(picture + 8, 16);
-    put_u32(picture + 12, vectors_at);
+    lay_header(count, bytes * count);
     for (port = 0; port < count; port++) {
         uint8_t *record = picture + 16 + 56 * port;
         put_u32(record, 255 << 8 | 8 * port << 16);
@@ -587,7 +541,7 @@ static void build_roots(uint32_t count, uint32_t capabilities, uint32_t rid_cont
         put_u32(record + 32, rid_control_1);
         put_u32(record + 52, vectors_at + bytes * port);
     }
-    memcpy(picture_before, picture, sizeof picture);
+    keep_picture();
 }
 
 /* That two ports with one entry set are found, at ID 0700h, where all ports of the picture or these two stand in the patch. */
@@ -724,6 +678,5 @@ int main(int argc, char **argv)
     try_texts(argv[2]);
     try_unknown_numbers();
     try_version();
-    printf("%u passed, %u failed\n", passed, failed);
-    return failed != 0;
+    return told();
 }

@@ -1,10 +1,5 @@
 // The answer lines, each written at once.
 use answers::ANSWER_BYTES;
-use chassis::Conversion;
-use ids::Rid;
-use ids::Target;
-use judge::ClaimAnswer;
-use judge::ConvertAnswer;
 use texts::Text;
 
 pub fn print_line(text: Text) {
@@ -47,60 +42,34 @@ pub fn print_number(number: u8) {
     print_line(Text::new().with_decimal(number as u64));
 }
 
-fn print_word(word: &[u8]) {
-    print_line(Text::new().with(b"0 ").with(word));
+// The number that a call returned, and what its u32 holds after it.
+fn print_written(number: u32, written: u32) {
+    print_line(
+        Text::new()
+            .with_decimal(number as u64)
+            .with(b" ")
+            .with_hex(written as u64, 8),
+    );
 }
 
-fn print_claimed(claimed: bool) {
-    if claimed {
-        print_word(b"yes");
-    } else {
-        print_word(b"no");
-    }
+// What the u32 of a call holds before it.
+const UNWRITTEN: u32 = 4294967295;
+
+// The decoders of a port that claim a target, by their bits.
+pub fn print_claim(picture: &[u8], port: u32, kind: u32, target: u64) {
+    let mut decoders: u32 = UNWRITTEN;
+    let number = fiswalend::fpb_claim(picture, port, kind, target, &mut decoders);
+    print_written(number, decoders);
 }
 
-// The number of the refusal that a port beyond every count gets: what is asked of no ID.
-fn print_no_id(picture: &[u8]) {
-    print_claim_answer(judge::claim(picture, 4294967295, Target::Addr(0)));
-}
-
-fn print_claim_answer(answer: ClaimAnswer) {
-    match answer {
-        ClaimAnswer::Refused(r) => print_number(r.number),
-        ClaimAnswer::Claimed(claimed) => print_claimed(claimed),
-    }
-}
-
-// Whether a port claims an ID (target kind 0) or an address.
-pub fn print_claim(picture: &[u8], port: u32, target_kind: u32, target: u64) {
-    if target_kind == 1 {
-        print_claim_answer(judge::claim(picture, port, Target::Addr(target)));
-        return;
-    }
-    if 65536 <= target {
-        print_no_id(picture);
-        return;
-    }
-    print_claim_answer(judge::claim(picture, port, Target::Id(Rid(target as u16))));
-}
-
-fn print_converted(made: Conversion) {
-    match made {
-        Conversion::NotClaimed => print_word(b"not-claimed"),
-        Conversion::Type0 => print_word(b"type-0"),
-        Conversion::Type1 => print_word(b"type-1"),
-        Conversion::Unsupported => print_word(b"unsupported"),
-    }
-}
-
-// What a port makes of a configuration request for an ID.
+// What a port makes of a configuration request for an ID, by its code.
 pub fn print_conversion(picture: &[u8], port: u32, id: u64) {
-    if 65536 <= id {
-        print_no_id(picture);
-        return;
-    }
-    match judge::convert(picture, port, Rid(id as u16)) {
-        ConvertAnswer::Refused(r) => print_number(r.number),
-        ConvertAnswer::Converted(made) => print_converted(made),
-    }
+    let mut decided: u32 = UNWRITTEN;
+    let number = fiswalend::fpb_convert(picture, port, id, &mut decided);
+    print_written(number, decided);
+}
+
+// What the claims program prints, with a slash for each line end but the last.
+pub fn print_holders(picture: &[u8], kind: u32, target: u64) {
+    reports::print_holders(picture, kind, target, b'/');
 }

@@ -55,8 +55,12 @@ fn answer<'a>(picture: &'a [u8], patch: &'a [u8], letter: u8) -> bool {
         }
         b'L' => {
             let port = fields::take_u32();
-            let target_kind = fields::take_u32();
-            lines::print_claim(picture, port, target_kind, fields::take_u64());
+            let kind = fields::take_u32();
+            lines::print_claim(picture, port, kind, fields::take_u64());
+        }
+        b'H' => {
+            let kind = fields::take_u32();
+            lines::print_holders(picture, kind, fields::take_u64());
         }
         b'V' => {
             let port = fields::take_u32();

@@ -5,8 +5,8 @@ use mathlib.Core.Path.{_≡_, refl, sym, ap, _∙_}
 use lib.ListN.{length, drop, getD}
 use Rattle.answers.specs.Answers.{headBytes, answerBytes}
 use Rattle.chassis.specs.declared.Finding.{Finding}
-use Rattle.chassis.specs.declared.Holders.{Holders}
-use Rattle.chassis.specs.declared.Holders.the-variants.{Nobody, Only, Both}
+use Rattle.chassis.specs.declared.Named.{Named}
+use Rattle.chassis.specs.declared.Named.the-variants.{NoPort, Port, Holder, Pair}
 use Rattle.fiswalend.specs.Found.{namingHead, findingBytes}
 use Rattle.fiswalend.specs.Calls.{returned, written}
 use Rattle.fiswalend.proofs.Forty.{under-40, has-40}
@@ -16,10 +16,11 @@ pub first-byte : (f : Finding) → getD (findingBytes f) 0 0 ≡ f .number
 unfolding findingBytes answerBytes headBytes
 first-byte f = go (f .ports)
   where
-    go : (ports : Holders) → namingHead (f .number) ports .number ≡ f .number
-    go Nobody = refl
-    go (Only p) = refl
-    go (Both p q) = refl
+    go : (ports : Named) → namingHead (f .number) ports .number ≡ f .number
+    go NoPort = refl
+    go (Port p) = refl
+    go (Holder h) = refl
+    go (Pair h k) = refl
 
 module _ (before : List ℕ) (f : Finding) where
   pub left-17 : length before < 40 → (17 ≡ returned before (f .number)) × (before ≡ written before (findingBytes f))

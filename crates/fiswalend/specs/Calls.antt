@@ -7,11 +7,16 @@ use mathlib.Core.Path.{_≡_}
 use lib.Dec.{ltb}
 use lib.ListN.{length, drop}
 use Rattle.judge.specs.declared.CheckAnswer.{CheckAnswer}
+use Rattle.judge.specs.declared.ClaimAnswer.{ClaimAnswer}
+use Rattle.judge.specs.declared.ConvertAnswer.{ConvertAnswer}
 use Rattle.judge.specs.declared.WalkAnswer.{WalkAnswer}
 use Rattle.judge.specs.Checking.{checkFinding, checkNumber}
+use Rattle.judge.specs.Claiming.{claimNumber}
+use Rattle.judge.specs.Converting.{convertNumber}
 use Rattle.judge.specs.Ends.{outcomeNumber}
 use Rattle.judge.specs.Trying.{TrialGives}
 use Rattle.judge.specs.Walking.{WalkGives}
+use Rattle.fiswalend.specs.Codes.{claimWrites, convertWrites}
 use Rattle.fiswalend.specs.Found.{findingBytes}
 use Rattle.fiswalend.specs.Walked.{walkBytes}
 
@@ -29,6 +34,13 @@ written before forty = cond (tooShort before) before (forty ++ drop 40 before)
 -- a check's number, and the buffer after it, for the buffer before it and the answer that it gives
 abbrev pub CheckCall : CheckAnswer → List ℕ → ℕ → List ℕ → Type 0
 CheckCall a before number after = (number ≡ returned before (checkNumber a)) × (after ≡ written before (findingBytes (checkFinding a)))
+
+-- the number of a claim or a conversion, and what its u32 holds after it, for what it held before
+abbrev pub ClaimCall : ClaimAnswer → ℕ → ℕ → ℕ → Type 0
+ClaimCall a before number after = (number ≡ claimNumber a) × (after ≡ claimWrites a before)
+
+abbrev pub ConvertCall : ConvertAnswer → ℕ → ℕ → ℕ → Type 0
+ConvertCall a before number after = (number ≡ convertNumber a) × (after ≡ convertWrites a before)
 
 -- a walk's number, and the buffer after it, for the buffer before it, where `Gives` says which answer is given
 abbrev pub WalkLeaves : Bool → (WalkAnswer → Type 0) → List ℕ → ℕ → List ℕ → Type 0

@@ -7,8 +7,8 @@ use Rattle.ids.specs.declared.Target.{Target}
 use Rattle.ids.specs.declared.Target.the-variants.{Id, Addr}
 use Rattle.ids.specs.Ids.{noPort}
 use Rattle.chassis.specs.declared.Finding.{Finding}
-use Rattle.chassis.specs.declared.Holders.{Holders}
-use Rattle.chassis.specs.declared.Holders.the-variants.{Nobody, Only, Both}
+use Rattle.chassis.specs.declared.Named.{Named}
+use Rattle.chassis.specs.declared.Named.the-variants.{NoPort, Port, Holder, Pair}
 use Rattle.chassis.specs.declared.Shown.{Shown}
 use Rattle.chassis.specs.declared.Shown.the-variants.{NoTarget, Least}
 use Rattle.answers.specs.declared.Head.{Head}
@@ -17,11 +17,12 @@ use Rattle.answers.specs.Answers.{answerBytes, noPlaces, targetPlaces}
 abbrev pub foundHead : ℕ → PortNo → PortNo → Head
 foundHead number port second = record { number = number; end = 0; port = port; second = second; crossings = 0; function = 0 }
 
--- the ports named; "unused places and ports are 255"
-abbrev pub namingHead : ℕ → Holders → Head
-namingHead number Nobody = foundHead number noPort noPort
-namingHead number (Only p) = foundHead number p noPort
-namingHead number (Both p q) = foundHead number p q
+-- the ports named; "unused places and ports are 255". 02, Item 3: "The 40 bytes stay as they are."
+abbrev pub namingHead : ℕ → Named → Head
+namingHead number NoPort = foundHead number noPort noPort
+namingHead number (Port p) = foundHead number p noPort
+namingHead number (Holder h) = foundHead number (h .port) noPort
+namingHead number (Pair h k) = foundHead number (h .port) (k .port)
 
 abbrev pub shownPlaces : Shown → List ℕ
 shownPlaces NoTarget = noPlaces

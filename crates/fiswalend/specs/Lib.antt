@@ -1,3 +1,4 @@
 pub mod Found
 pub mod Walked
+pub mod Codes
 pub mod Calls

@@ -4,7 +4,7 @@ use answers::Head;
 use answers::with_target;
 use answers::without_places;
 use chassis::Finding;
-use chassis::Holders;
+use chassis::Named;
 use chassis::Shown;
 use ids::PortNo;
 use ids::Target;
@@ -28,13 +28,14 @@ fn found_head(number: u8, port: PortNo, second: PortNo) -> Head
 }
 
 // The same, where it names no port, one or two.
-fn naming_head(number: u8, ports: Holders) -> Head
+fn naming_head(number: u8, ports: Named) -> Head
     ensures { λ r. ⌜ r ≡ namingHead number ports ⌝ }
 {
     match ports {
-        Holders::Nobody => found_head(number, PortNo::NONE, PortNo::NONE),
-        Holders::Only(p) => found_head(number, p, PortNo::NONE),
-        Holders::Both(p, q) => found_head(number, p, q),
+        Named::NoPort => found_head(number, PortNo::NONE, PortNo::NONE),
+        Named::Port(p) => found_head(number, p, PortNo::NONE),
+        Named::Holder(h) => found_head(number, h.port, PortNo::NONE),
+        Named::Pair(h, k) => found_head(number, h.port, k.port),
     }
 }
 

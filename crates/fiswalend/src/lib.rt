@@ -2,6 +2,8 @@
 // must see to.
 mod buffers;
 mod check_call;
+mod claim_call;
+mod convert_call;
 mod found;
 mod trial_check_call;
 mod trial_walk_call;
@@ -9,6 +11,8 @@ mod walk_call;
 mod walked;
 
 pub use check_call::fpb_check;
+pub use claim_call::fpb_claim;
+pub use convert_call::fpb_convert;
 pub use trial_check_call::fpb_trial_check;
 pub use trial_walk_call::fpb_trial_walk;
 pub use walk_call::fpb_walk;
