@@ -19,13 +19,13 @@ run() {
         is_command "${words[0]}" || bad_usage "there is no command \`${words[0]}'"
         help_on "${words[0]}"
     fi
-    give "fpb: the judge of FPB registers: whether a picture of a chassis is sound, and where its packets go
+    give "fpb: the judge of FPB registers: whether a picture of a chassis is sound, who holds what in it, and where its packets go
 
 $(commands)
   fpb --version                          the version
 
-FILE is a picture; without it, or as \`-', standard input. Status: 0 clear, drawn or an end reached; 1 refused, and for a walk
-Unsupported Request or doubled; 2 bad usage, input that cannot be read, output that cannot be written, or a program that is not
-built. \`fpb help COMMAND' says more of each."
+FILE is a picture; without it, or as \`-', standard input. Status: 0 clear, drawn, holders named or nobody, or an end reached; 1 refused, and
+for a walk Unsupported Request or doubled; 2 bad usage, input that cannot be read, output that cannot be written, or a program
+that is not built. \`fpb help COMMAND' says more of each."
     exit 0
 }

@@ -156,6 +156,15 @@ SAMPLES = {
         Port(ROOT, 255, 8, buses=(0xFF, 0xFF)),
         Port(ROOT, 255, 16).vector(RID, 0, 0, 0x1FFF, [0]),
     ]),
+    # a forgotten bus range of port 2, and port 3, which has the same ID as its own and by an entry of its RID vector
+    'own-and-vector': picture(SWITCH[:3] + [Port(DOWNSTREAM, 1, 0x0300).vector(RID, 0, 0, 0x60, [0])]),
+    # port 2 has a granule by both windows and by its MEM Low vector, port 3 by its vector alone
+    'three-decoders': picture([
+        Port(ROOT, 255, 0x0008, buses=(1, 4), memory=(0xE000, 0xEFF0)),
+        Port(UPSTREAM, 0, 0x0100, buses=(2, 4), memory=(0xE000, 0xEFF0)),
+        Port(DOWNSTREAM, 1, 0x0200, buses=(3, 3), memory=(0xE050, 0xE050), prefetchable=(0xE050, 0xE060)).vector(LOW, 0, 0, 0xE00, [5]),
+        Port(DOWNSTREAM, 1, 0x0208, buses=(4, 4)).vector(LOW, 0, 0, 0xE00, [5]),
+    ]),
     'own-id-claimed': picture([Port(ROOT, 255, 0x0108, buses=(1, 1))]),
     'stray-id': picture([Port(ROOT, 255, 8, buses=(1, 1)), Port(UPSTREAM, 0, 0x0100, buses=(2, 2))]),
     'stray-address': picture([

@@ -7,7 +7,7 @@ cd "$(dirname "$(readlink -f "$0")")/.." || exit 2
 root=$PWD
 self=tests/front.sh
 . tools/build.sh
-for program in report explain route tree trial; do build "$program" || { echo "0 passed, 1 failed"; exit 1; }; done
+for program in report explain route tree trial claimed; do build "$program" || { echo "0 passed, 1 failed"; exit 1; }; done
 work=$(mktemp -d)
 chmod 755 "$work"
 trap 'rm -rf "$work"' EXIT
@@ -43,9 +43,10 @@ as_nobody() {
 }
 
 one=samples/one-port.picture shared=samples/shared-granule.picture
-shared_line='refused 12 addr 00000000e0500000 ports 2 3/'
+shared_line='refused 12 addr 00000000e0500000 ports 2 by low 3 by low/'
 report_usage='/usage: fpb report \[--explain\] \[FILE\]/'
 route_usage='/usage: fpb route KIND START TARGET \[FILE\]/'
+claims_usage='/usage: fpb claims KIND TARGET \[FILE\]/'
 trial_usage='/usage: fpb trial \[--explain\] PATCH \[FILE\]/'
 
 input_and_output() {
@@ -85,7 +86,7 @@ usage() {
     expect 2 '' "fpb report: one FILE is enough, and \`$shared' is another$report_usage" ./fpb report "$one" "$shared"
     expect 2 '' "fpb report: FILE is an empty word$report_usage" ./fpb report ""
     expect 2 '' "fpb help: there is no command \`me'/usage: fpb help \[COMMAND\]/" ./fpb help me
-    for command in report route tree trial help; do
+    for command in report route tree trial claims help; do
         expect 0 "usage: fpb $command*Status*" '' ./fpb help "$command"
         expect 0 "*  fpb $command *" '' ./fpb help
         expect 0 "usage: fpb $command*" '' ./fpb "$command" --help
@@ -160,6 +161,55 @@ targets() {
     expect 2 '' "fpb route: KIND, START and TARGET are wanted, and 2 of the three are given$route_usage" ./fpb route id host
 }
 
+# which ports hold a target: targets, files, statuses and messages as for the walk
+claims() {
+    local switch=samples/switch.picture lines='port 0 by bus/port 1 by bus/port 2 by bus/' target
+    for target in 0300 300 0x0300 0X300 0300h 00000000000000000000300H 03:00.0; do
+        expect 0 "$lines" '' ./fpb claims id "$target" "$switch"
+    done
+    expect 0 "$lines" '' from "$switch" ./fpb claims id 0300
+    expect 0 "$lines" '' from "$switch" ./fpb claims id 0300 -
+    expect 0 "$lines" '' in_folder samples ../fpb claims id 0300 switch.picture
+    expect 0 "$lines" '' ./fpb claims -- id 0300 "$switch"
+    expect 0 "$lines" '' ./fpb claims id -- 0300 "$switch"
+    expect 0 'port 0 by bus/port 1 by own/' '' ./fpb claims id 01:00.0 "$switch"
+    expect 0 'nobody/' '' ./fpb claims id ffff "$switch"
+    expect 0 'nobody/' '' ./fpb claims addr 0xFFFFFFFFffffffff "$switch"
+    expect 0 'port 0 by mem/port 1 by mem/port 2 by low/port 3 by low/' '' ./fpb claims addr E0500000h "$shared"
+    expect 1 'refused 16/' '' ./fpb claims id 10000 "$switch"
+    expect 1 'refused 16/' '' ./fpb claims id 100000300 "$switch"
+    expect 1 'refused 16/' '' ./fpb claims id ffffffffffffffff "$switch"
+    expect 1 'refused 1/' '' ./fpb claims id 10000 samples/short.picture
+    expect 1 'refused 1/' '' from /dev/null ./fpb claims addr 0
+    expect 1 'refused 1/' '' ./fpb claims addr 0 /dev/zero
+    for target in zz 0x 0x0300h 03:20.0 03:00.8 3:0.0 0000:03:00.0 "" " 300" +300; do
+        expect 2 '' "fpb claims: TARGET is written as 0300, 0x0300, 0300h or 03:00.0, and not as \`$target'$claims_usage" \
+            ./fpb claims id "$target" "$switch"
+    done
+}
+
+wrong_claims() {
+    local kind
+    for kind in config ID address 0 ''; do
+        expect 2 '' "fpb claims: KIND is id or addr, and \`$kind' is neither$claims_usage" ./fpb claims "$kind" 0300 "$one"
+    done
+    expect 2 '' "fpb claims: TARGET is written as e0500000*\`03:00.0'$claims_usage" ./fpb claims addr 03:00.0 "$one"
+    expect 2 '' "fpb claims: TARGET has 64 bits at most*$claims_usage" ./fpb claims addr 10000000000000000 "$one"
+    expect 2 '' "fpb claims: KIND and TARGET are wanted, and 0 of the two are given$claims_usage" ./fpb claims
+    expect 2 '' "fpb claims: KIND and TARGET are wanted, and 1 of the two are given$claims_usage" ./fpb claims id
+    expect 2 '' "fpb claims: there is no option \`--explain'$claims_usage" ./fpb claims --explain id 0300 "$one"
+    expect 2 '' "fpb claims: there is no option \`-1'$claims_usage" ./fpb claims id -1 "$one"
+    expect 2 '' "fpb claims: TARGET is written as *\`-1'$claims_usage" ./fpb claims -- id -1 "$one"
+    expect 2 '' "fpb claims: one FILE is enough, and \`$shared' is another$claims_usage" ./fpb claims id 0300 "$one" "$shared"
+    expect 2 '' "fpb claims: FILE is an empty word$claims_usage" ./fpb claims id 0300 ''
+    expect 2 '' 'fpb claims: no.picture cannot be opened: No such file or directory/' ./fpb claims id 0300 no.picture
+    expect 2 '' 'fpb claims: samples is a directory, and not a picture/' ./fpb claims id 0300 samples
+    expect 2 '' 'fpb claims: standard input is closed/' closed_input ./fpb claims id 0300
+    expect 2 '' 'fpb claims: /proc/self/mem cannot be read/' ./fpb claims id 0300 /proc/self/mem
+    expect 2 '' 'fpb claims: standard output cannot be written/' full_output ./fpb claims id 0300 "$one"
+    expect 2 '' 'fpb claims: standard output cannot be written/' closed_output ./fpb claims addr 0 samples/short.picture
+}
+
 elsewhere() {
     ln -s "$root/fpb" "$work/link"
     cp "$one" "$work/-odd name"
@@ -171,7 +221,9 @@ elsewhere() {
 
 # the samples by words: the line of `report', and one sentence below it
 explained() {
-    expect 1 "$shared_line"'An address has two holders at one place: *port 2 (02:00.0*port 3 (*./' '' ./fpb report --explain "$shared"
+    local by='through its MEM Low vector'
+    expect 1 "${shared_line}An address has two holders at one place: *port 2 (02:00.0*) $by and by port 3 (*) $by./" '' \
+        ./fpb report --explain "$shared"
     expect 0 'ports 1/clear/Nothing was found wrong*./' '' ./fpb report "$one" --explain
     expect 0 '-*00:01.0-\[01\]*' '' ./fpb tree "$one"
     expect 1 'refused 1/' '' ./fpb tree samples/short.picture
@@ -367,13 +419,14 @@ waiting() {
 # half_answers FPB EMULATOR: that only a whole answer has the status 0, by a stand-in for what runs the programs
 half_answers() {
     local line
-    for line in 'ports 1' 'ports 1\nclea' 'ports 1\nclearly' ' clear' 'end' ''; do
+    for line in 'ports 1' 'ports 1\nclea' 'ports 1\nclearly' ' clear' 'end' 'port 1' 'port 1 by' 'nobod' 'nobody\nport 1' ''; do
         rm -f "$2"
         printf '#!/bin/sh\ncat >/dev/null\nprintf "%s"\n' "$line" >"$2"
         chmod +x "$2"
         expect 2 '' 'fpb report: the program report did not answer/' "$1" report "$one"
         expect 2 '' 'fpb report: the program explain did not answer/' "$1" report --explain "$one"
         expect 2 '' 'fpb route: the program route did not answer/' "$1" route id host 0300 "$one"
+        expect 2 '' 'fpb claims: the program claimed did not answer/' "$1" claims id 0300 "$one"
         expect 2 '' 'fpb tree: the program tree did not answer/' "$1" tree "$one"
         expect 2 '' 'fpb trial: the program trial did not answer/' "$1" trial samples/waiting-card.fits.patch "$one"
         expect 2 '' 'fpb trial: the program explain did not answer/' "$1" trial --explain samples/waiting-card.fits.patch "$one"
@@ -413,6 +466,7 @@ installed() {
     expect 0 'ports 1/clear/' '' without_rt "$bin" report "$one"
     expect 1 "$shared_line*./" '' without_rt "$bin" report --explain "$shared"
     expect 0 'end device port 2/path 0 1 2/' '' without_rt "$work/installed" route id host 03:00.0 samples/switch.picture
+    expect 0 'port 0 by bus/port 1 by bus/port 2 by bus/' '' without_rt "$work/installed" claims id 03:00.0 samples/switch.picture
     expect 0 '-*' '' in_folder / "$work/installed" tree "$root/$one"
     expect 0 'ports 4/clear/' '' in_folder samples without_rt "$bin" trial waiting-card.fits.patch waiting-card.picture
     expect 0 '*fpb report*' '' without_rt "$bin" help
@@ -442,6 +496,8 @@ input_and_output
 usage
 versions
 targets
+claims
+wrong_claims
 trials
 elsewhere
 explained
