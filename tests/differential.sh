@@ -1,10 +1,11 @@
 #!/usr/bin/env bash
 # differential.sh [SEED [PICTURES]]: the proved judge against the second program (second/README.md), call by call: report,
-# check and walk (40 bytes each), claim and conversion; report, check and walk of trials, and where their vectors lie. Runs the
-# second program's own tests, then the hand-written cases, all edges of reading and PICTURES random pictures of seed SEED, with
-# good and damaged patches; then what `fpb report --explain' and `fpb tree' print of 150 pictures, or of 15 in a hundred of
-# PICTURES if that is more, and what `fpb trial' and `fpb trial --explain' print of 60 pictures with a patch each, or of 6 in a
-# hundred. A longer run with another seed: tests/differential.sh 7 50000
+# check and walk (40 bytes each), claim and conversion, who holds a target; report, check and walk of trials, and where their
+# vectors lie. Runs the second program's own tests, then the hand-written cases, all edges of reading and PICTURES random
+# pictures of seed SEED, with good and damaged patches; then what `fpb report --explain' and `fpb tree' print of 150 pictures, or
+# of 15 in a hundred of PICTURES if that is more, what `fpb claims' prints of an ID and an address in the first 30 of them, and
+# what `fpb trial' and `fpb trial --explain' print of 60 pictures with a patch each, or of 6 in a hundred.
+# A longer run with another seed: tests/differential.sh 7 50000
 # A difference prints the picture's file, the call and both answers, or a diff of both texts.
 # Last line: N passed, M failed, counting answers, texts and tests.
 set -u
@@ -34,7 +35,7 @@ rm -rf "$work"
 mkdir -p "$work"
 (cd second && cargo build --release --offline --quiet) || give_up "the second program does not build"
 second=$PWD/second/target/release/second
-for program in batch explain tree trial; do
+for program in batch claimed explain tree trial; do
     build "$program" || give_up "the $program program is not proved"
 done
 echo "built at $SECONDS s"
@@ -69,18 +70,18 @@ compare() {
     echo "$name: $same answers agree, $other differ (at $SECONDS s)"
 }
 
-# compare_text PICTURE PROGRAM [PATCH]: what a program prints of a picture, against the second program's command of that name
+# compare_text PICTURE PROGRAM COMMAND [ARGS..]: what a program prints of a picture, against that command of the second program
 compare_text() {
-    local picture=$1
-    shift
-    "$second" "$@" <"$picture" >"$work/text.expected" &
-    run_built "$@" <"$picture" >"$work/text.actual" || echo "$1: status $?"
+    local picture=$1 program=$2 command=$3
+    shift 3
+    "$second" "$command" "$@" <"$picture" >"$work/text.expected" &
+    run_built "$program" "$@" <"$picture" >"$work/text.actual" || echo "$program: status $?"
     wait $! || echo "second: status $?"
     if [ -s "$work/text.expected" ] && cmp -s "$work/text.expected" "$work/text.actual"; then
         passed=$((passed + 1))
     else
         failed=$((failed + 1))
-        echo "$picture: $* (actual, +) differs from second $* (expected, -)"
+        echo "$picture: $program $* (actual, +) differs from second $command $* (expected, -)"
         diff -u "$work/text.expected" "$work/text.actual" | tail -n +3
     fi
 }
@@ -90,10 +91,25 @@ compare_texts() {
     local before=$failed n
     "$second" pictures "$1" "$2" "$work/pictures" || give_up "no pictures of seed $1"
     for ((n = 1; n <= $2; n++)); do
-        compare_text "$work/pictures/$n.picture" explain
-        compare_text "$work/pictures/$n.picture" tree
+        compare_text "$work/pictures/$n.picture" explain explain
+        compare_text "$work/pictures/$n.picture" tree tree
     done
     echo "explain and tree: $((2 * $2 - failed + before)) texts agree, $((failed - before)) differ (at $SECONDS s)"
+}
+
+# compare_claims COUNT: who holds an ID and an address in each of the first pictures of compare_texts: the target that its report
+# names, and else one that many hold
+compare_claims() {
+    local before=$failed n picture line id address
+    for ((n = 1; n <= $1; n++)); do
+        picture=$work/pictures/$n.picture id=0300 address=e0500000
+        line=$("$second" explain <"$picture" | head -n 1)
+        if [[ $line =~ \ id\ ([0-9a-f]+) ]]; then id=${BASH_REMATCH[1]}; fi
+        if [[ $line =~ \ addr\ ([0-9a-f]+) ]]; then address=${BASH_REMATCH[1]}; fi
+        compare_text "$picture" claimed claims id "$id"
+        compare_text "$picture" claimed claims addr "$address"
+    done
+    echo "claims: $((2 * $1 - failed + before)) texts agree, $((failed - before)) differ (at $SECONDS s)"
 }
 
 # compare_trials SEED COUNT: both texts of so many pictures with a patch each
@@ -101,8 +117,8 @@ compare_trials() {
     local before=$failed n
     "$second" patches "$1" "$2" "$work/patches" || give_up "no patches of seed $1"
     for ((n = 1; n <= $2; n++)); do
-        compare_text "$work/patches/$n.picture" trial "$work/patches/$n.patch"
-        compare_text "$work/patches/$n.picture" explain "$work/patches/$n.patch"
+        compare_text "$work/patches/$n.picture" trial trial "$work/patches/$n.patch"
+        compare_text "$work/patches/$n.picture" explain explain "$work/patches/$n.patch"
     done
     echo "trial and explain: $((2 * $2 - failed + before)) texts agree, $((failed - before)) differ (at $SECONDS s)"
 }
@@ -120,6 +136,7 @@ while [ "$pictures" -gt 0 ]; do
     seed=$((seed + 1)) pictures=$((pictures - now))
 done
 compare_texts "$first_seed" "$texts"
+compare_claims 30
 compare_trials "$first_seed" "$trials"
 echo "$passed passed, $failed failed"
 [ "$failed" -eq 0 ]

@@ -4,7 +4,6 @@
 use std::cell::OnceCell;
 use std::fmt;
 
-use crate::claims::Conversion;
 use crate::judge::Judge;
 use crate::patch::{part, Part, Slice};
 use crate::picture::Refusal;
@@ -19,6 +18,7 @@ pub enum Record {
     Walk { kind: u32, start: u32, target: u64 },
     Claim { port: u32, target_kind: u32, target: u64 },
     Conversion { port: u32, id: u64 },
+    Holders { target_kind: u32, target: u64 },
     TrialReport,
     TrialCheck,
     TrialWalk { kind: u32, start: u32, target: u64 },
@@ -49,6 +49,7 @@ impl Record {
                 write_call(out, b'L', &[*port, *target_kind], Some(*target));
             }
             Record::Conversion { port, id } => write_call(out, b'V', &[*port], Some(*id)),
+            Record::Holders { target_kind, target } => write_call(out, b'H', &[*target_kind], Some(*target)),
             Record::TrialReport => write_call(out, b'X', &[], None),
             Record::TrialCheck => write_call(out, b'T', &[], None),
             Record::TrialWalk { kind, start, target } => {
@@ -88,6 +89,9 @@ impl fmt::Display for Record {
                 write!(out, "claim port {port} target kind {target_kind} target {target:x}h")
             }
             Record::Conversion { port, id } => write!(out, "conversion port {port} ID {id:x}h"),
+            Record::Holders { target_kind, target } => {
+                write!(out, "holders target kind {target_kind} target {target:x}h")
+            }
             Record::TrialReport => write!(out, "trial report"),
             Record::TrialCheck => write!(out, "trial check"),
             Record::TrialWalk { kind, start, target } => {
@@ -151,6 +155,7 @@ impl<'a> Records<'a> {
                 target: self.take_8()?,
             }),
             b'V' => Ok(Record::Conversion { port: self.take_4()?, id: self.take_8()? }),
+            b'H' => Ok(Record::Holders { target_kind: self.take_4()?, target: self.take_8()? }),
             b'X' => Ok(Record::TrialReport),
             b'T' => Ok(Record::TrialCheck),
             b'U' => {
@@ -214,13 +219,16 @@ impl Lent {
     /// The answer line to a call about the picture.
     fn answer(&self, call: &Record) -> String {
         match call {
-            Record::Report => report_line(&self.judge),
+            Record::Report => one_line(&self.judge.report()),
             Record::Check => check_line(&self.judge),
             Record::Walk { kind, start, target } => walk_line(&self.judge, *kind, *start, *target),
             Record::Claim { port, target_kind, target } => {
-                word_line(self.judge.claim(*port, *target_kind, *target), claim_word)
+                value_line(|value| self.judge.claim_call(value, *port, *target_kind, *target))
             }
-            Record::Conversion { port, id } => word_line(self.judge.conversion(*port, *id), conversion_word),
+            Record::Conversion { port, id } => {
+                value_line(|value| self.judge.conversion_call(value, *port, *id))
+            }
+            Record::Holders { target_kind, target } => one_line(&self.judge.claims(*target_kind, *target)),
             other => unreachable!("{other} is no call about the picture"),
         }
     }
@@ -228,20 +236,20 @@ impl Lent {
     /// The answer line to a call about picture and patch.
     fn answer_of_trial(&self, call: &Record) -> String {
         match call {
-            Record::TrialReport => report_line(self.trial()),
+            Record::TrialReport => one_line(&self.trial().report()),
             Record::TrialCheck => check_line(self.trial()),
             Record::TrialWalk { kind, start, target } => walk_line(self.trial(), *kind, *start, *target),
             Record::Part { port, mechanism } => {
-                word_line(part(&self.picture, &self.patch, *port, *mechanism), part_words)
+                part_line(part(&self.picture, &self.patch, *port, *mechanism))
             }
             other => unreachable!("{other} is no call about a trial"),
         }
     }
 }
 
-/// The line of a report, or of a trial's.
-fn report_line(judge: &Judge) -> String {
-    judge.report().trim_end().replace('\n', "/")
+/// What a program prints, with `/` for each newline but the last.
+fn one_line(text: &str) -> String {
+    text.trim_end().replace('\n', "/")
 }
 
 /// The line of a check, or of a trial's.
@@ -262,40 +270,20 @@ fn call_line(call: impl FnOnce(&mut [u8]) -> u32) -> String {
     format!("{number} {digits}")
 }
 
-/// The line of a claim, a conversion or a part: a refusal's number alone, or 0 and words.
-fn word_line<T, W: fmt::Display>(answer: Result<T, Refusal>, word: fn(T) -> W) -> String {
+/// The line of a claim or a conversion: the number, and what its 4 bytes hold after the call.
+fn value_line(call: impl FnOnce(&mut u32) -> u32) -> String {
+    let mut value = u32::MAX;
+    let number = call(&mut value);
+    format!("{number} {value:08x}")
+}
+
+/// The line of a part: a refusal's number alone, or 0, the slice, and where and how long it is there.
+fn part_line(answer: Result<Part, Refusal>) -> String {
     match answer {
-        Ok(answer) => format!("0 {}", word(answer)),
+        Ok(Part { slice: Slice::Picture, at, length }) => format!("0 picture {at} {length}"),
+        Ok(Part { slice: Slice::Patch, at, length }) => format!("0 patch {at} {length}"),
         Err(refusal) => refusal.number.to_string(),
     }
-}
-
-/// The word for a claim.
-fn claim_word(claims: bool) -> &'static str {
-    if claims {
-        "yes"
-    } else {
-        "no"
-    }
-}
-
-/// The word for a conversion.
-fn conversion_word(conversion: Conversion) -> &'static str {
-    match conversion {
-        Conversion::NotClaimed => "not-claimed",
-        Conversion::Type0 => "type-0",
-        Conversion::Type1 => "type-1",
-        Conversion::Unsupported => "unsupported",
-    }
-}
-
-/// The words for a part: the slice, and where and how long it is there.
-fn part_words(part: Part) -> String {
-    let slice = match part.slice {
-        Slice::Picture => "picture",
-        Slice::Patch => "patch",
-    };
-    format!("{slice} {} {}", part.at, part.length)
 }
 
 /// All answer lines to a batch; before the first picture and the first patch, each is empty.

@@ -1,11 +1,27 @@
 //! Hand-written cases with the answers that the papers give: the one-port picture and C1 to C12 of
 //! the paper, the numbered decisions on open points, and the cases that a first build gets wrong. Those
-//! of trials are in their own file.
+//! of decoders by name and of trials are in files of their own.
 
 use crate::batch::Record;
+use crate::claim_cases::claim_cases;
 use crate::draft::{Draft, DraftPort, VectorShape, Which, DOWNSTREAM, NO_PARENT, ROOT, UPSTREAM};
 use crate::trial_cases::{cases_before_a_patch, trial_cases};
 use Which::{High, Low, Rid};
+
+/// What a claim writes for each decoder; for several of them their sum, and for none 0.
+pub const NONE: u32 = 0;
+pub const BUS: u32 = 1;
+pub const RID: u32 = 2;
+pub const MEM: u32 = 4;
+pub const PREF: u32 = 8;
+pub const LOW: u32 = 16;
+pub const HIGH: u32 = 32;
+
+/// What a conversion writes.
+pub const NOT_CLAIMED: u32 = 0;
+pub const TYPE_0: u32 = 1;
+pub const TYPE_1: u32 = 2;
+pub const UNSUPPORTED: u32 = 3;
 
 /// A picture with calls, and the line that answers each of them; a patch where one is lent.
 pub struct Case {
@@ -26,7 +42,7 @@ pub fn up(parent: u8, own_id: u16) -> DraftPort {
 }
 
 /// A downstream port that claims nothing.
-fn down(parent: u8, own_id: u16) -> DraftPort {
+pub fn down(parent: u8, own_id: u16) -> DraftPort {
     DraftPort::silent(DOWNSTREAM, parent, own_id)
 }
 
@@ -41,17 +57,17 @@ fn all_256() -> Vec<u64> {
 }
 
 /// A case of a drafted picture.
-fn case(name: &'static str, ports: Vec<DraftPort>, calls: Vec<(Record, String)>) -> Case {
+pub fn case(name: &'static str, ports: Vec<DraftPort>, calls: Vec<(Record, String)>) -> Case {
     raw_case(name, Draft::of(ports).bytes(), calls)
 }
 
 /// A case of a picture given byte by byte.
-fn raw_case(name: &'static str, picture: Vec<u8>, calls: Vec<(Record, String)>) -> Case {
+pub fn raw_case(name: &'static str, picture: Vec<u8>, calls: Vec<(Record, String)>) -> Case {
     Case { name, picture, patch: None, calls }
 }
 
 /// The report gives this line.
-fn reports(line: &str) -> (Record, String) {
+pub fn reports(line: &str) -> (Record, String) {
     (Record::Report, line.to_string())
 }
 
@@ -84,30 +100,38 @@ pub fn line(number: u8, fields: [u8; 5], path: &[u8]) -> String {
     format!("{number} {digits}")
 }
 
-/// A port claims this ID, or does not.
-fn claims_id(port: u32, target: u64, claims: bool) -> (Record, String) {
-    let answer = if claims { "0 yes" } else { "0 no" };
-    (Record::Claim { port, target_kind: 0, target }, answer.to_string())
+/// These decoders of a port claim this ID.
+pub fn claims_id(port: u32, target: u64, decoders: u32) -> (Record, String) {
+    (Record::Claim { port, target_kind: 0, target }, format!("0 {decoders:08x}"))
 }
 
-/// A port claims this address, or does not.
-fn claims_address(port: u32, target: u64, claims: bool) -> (Record, String) {
-    let answer = if claims { "0 yes" } else { "0 no" };
-    (Record::Claim { port, target_kind: 1, target }, answer.to_string())
+/// These decoders of a port claim this address.
+pub fn claims_address(port: u32, target: u64, decoders: u32) -> (Record, String) {
+    (Record::Claim { port, target_kind: 1, target }, format!("0 {decoders:08x}"))
+}
+
+/// A claim is refused with this number.
+pub fn claim_refused(port: u32, target_kind: u32, target: u64, number: u8) -> (Record, String) {
+    (Record::Claim { port, target_kind, target }, format!("{number} ffffffff"))
 }
 
 /// A port converts a request for this ID so.
-fn converts(port: u32, id: u64, answer: &str) -> (Record, String) {
-    (Record::Conversion { port, id }, answer.to_string())
+pub fn converts(port: u32, id: u64, conversion: u32) -> (Record, String) {
+    (Record::Conversion { port, id }, format!("0 {conversion:08x}"))
+}
+
+/// A conversion is refused with this number.
+pub fn conversion_refused(port: u32, id: u64, number: u8) -> (Record, String) {
+    (Record::Conversion { port, id }, format!("{number} ffffffff"))
 }
 
 /// A root port, an upstream port and a downstream port in a row, sound, with a device at the end.
-fn chain_of_three(downstream: DraftPort) -> Vec<DraftPort> {
+pub fn chain_of_three(downstream: DraftPort) -> Vec<DraftPort> {
     vec![root(0x0008).buses(1, 5), up(0, 0x0100).buses(2, 5), downstream]
 }
 
 /// A downstream port of that chain, with buses 3 to 5.
-fn downstream_3_to_5() -> DraftPort {
+pub fn downstream_3_to_5() -> DraftPort {
     down(1, 0x0200).buses(3, 5)
 }
 
@@ -137,6 +161,7 @@ pub fn all_cases() -> Vec<Case> {
         walking_cases(),
         first_build_cases(),
         scan_cases(),
+        claim_cases(),
         trial_cases(),
     ]
     .into_iter()
@@ -168,7 +193,7 @@ fn two_full_ports() -> Vec<DraftPort> {
 }
 
 /// A root port and an upstream port below it that is good as far as IDs go.
-fn parent_and_child(parent: DraftPort, child: DraftPort) -> Vec<DraftPort> {
+pub fn parent_and_child(parent: DraftPort, child: DraftPort) -> Vec<DraftPort> {
     let above = DraftPort { kind: ROOT, parent: NO_PARENT, own_id: 8, ..parent.buses(1, 1) };
     let below = DraftPort { kind: UPSTREAM, parent: 0, own_id: 0x0100, ..child };
     vec![above, below]
@@ -189,60 +214,60 @@ fn paper_cases() -> Vec<Case> {
             vec![
                 reports("ports 1/clear"),
                 checks(0, 255, 255, None),
-                claims_address(0, 0xE000_0000, true),
+                claims_address(0, 0xE000_0000, MEM),
                 walks(1, 255, 0xE00F_FFFF, [1, 0, 255, 0], &[0]),
                 walks(0, 255, 0x0008, [2, 0, 255, 0], &[]),
                 walks(0, 0, 0x0008, [2, 0, 255, 0], &[0]),
             ],
         ),
-        case("C1", rid(0, 0, &[255]), vec![claims_id(0, 2_047, true), claims_id(0, 2_039, false)]),
-        case("C2", rid(0, 0, &all_256()), vec![claims_id(0, 2_047, true), claims_id(0, 2_048, false)]),
+        case("C1", rid(0, 0, &[255]), vec![claims_id(0, 2_047, RID), claims_id(0, 2_039, NONE)]),
+        case("C2", rid(0, 0, &all_256()), vec![claims_id(0, 2_047, RID), claims_id(0, 2_048, NONE)]),
         case(
             "C2: set bits after each vector",
             two_full_ports(),
             vec![
-                claims_id(0, 2_047, true),
-                claims_id(0, 2_048, false),
-                claims_address(0, 0x0FFF_FFFF, true),
-                claims_address(0, 0x1000_0000, false),
-                claims_address(0, 0x10_FFFF_FFFF, true),
-                claims_address(0, 0x11_0000_0000, false),
+                claims_id(0, 2_047, RID),
+                claims_id(0, 2_048, NONE),
+                claims_address(0, 0x0FFF_FFFF, LOW),
+                claims_address(0, 0x1000_0000, NONE),
+                claims_address(0, 0x10_FFFF_FFFF, HIGH),
+                claims_address(0, 0x11_0000_0000, NONE),
             ],
         ),
-        case("C3", rid(32, 3, &all_256()), vec![claims_id(0, 255, false), claims_id(0, 256, true)]),
-        case("C4: entry 0", rid(32, 3, &[0]), vec![claims_id(0, 319, true), claims_id(0, 320, false)]),
-        case("C4: entry 1", rid(32, 3, &[1]), vec![claims_id(0, 319, false), claims_id(0, 320, true)]),
+        case("C3", rid(32, 3, &all_256()), vec![claims_id(0, 255, NONE), claims_id(0, 256, RID)]),
+        case("C4: entry 0", rid(32, 3, &[0]), vec![claims_id(0, 319, RID), claims_id(0, 320, NONE)]),
+        case("C4: entry 1", rid(32, 3, &[1]), vec![claims_id(0, 319, NONE), claims_id(0, 320, RID)]),
         case(
             "C5",
             low(&[127]),
-            vec![claims_address(0, 0xFFFF_FFFF, true), claims_address(0, 0xFEFF_FFFF, false)],
+            vec![claims_address(0, 0xFFFF_FFFF, LOW), claims_address(0, 0xFEFF_FFFF, NONE)],
         ),
         case(
             "C6",
             low(&all_256()),
-            vec![claims_address(0, 0xFFFF_FFFF, true), claims_address(0, 0x1_0000_0000, false)],
+            vec![claims_address(0, 0xFFFF_FFFF, LOW), claims_address(0, 0x1_0000_0000, NONE)],
         ),
         case(
             "C7",
             high(&[1]),
             vec![
-                claims_address(0, 0x1_1000_0000, true),
-                claims_address(0, 0x1_0FFF_FFFF, false),
-                claims_address(0, 0x1_2000_0000, false),
+                claims_address(0, 0x1_1000_0000, HIGH),
+                claims_address(0, 0x1_0FFF_FFFF, NONE),
+                claims_address(0, 0x1_2000_0000, NONE),
             ],
         ),
         case(
             "C8",
             vec![root(0).memory(0xE01, 0xE00)],
-            vec![claims_address(0, 0xE000_0000, false), claims_address(0, 0xE010_0000, false)],
+            vec![claims_address(0, 0xE000_0000, NONE), claims_address(0, 0xE010_0000, NONE)],
         ),
         case(
             "C9",
             vec![root(0).memory(0, 0)],
             vec![
-                claims_address(0, 0, true),
-                claims_address(0, 0xF_FFFF, true),
-                claims_address(0, 0x10_0000, false),
+                claims_address(0, 0, MEM),
+                claims_address(0, 0xF_FFFF, MEM),
+                claims_address(0, 0x10_0000, NONE),
             ],
         ),
         case(
@@ -250,7 +275,7 @@ fn paper_cases() -> Vec<Case> {
             chain_of_three(downstream_3_to_5()),
             vec![
                 reports("ports 3/clear"),
-                converts(2, 0x0308, "0 unsupported"),
+                converts(2, 0x0308, UNSUPPORTED),
                 walks(2, 255, 0x0308, [4, 2, 255, 0], &[0, 1]),
             ],
         ),
@@ -258,7 +283,7 @@ fn paper_cases() -> Vec<Case> {
             "C11",
             chain_of_three(downstream_3_to_5().with_ari()),
             vec![
-                converts(2, 0x0308, "0 type-0"),
+                converts(2, 0x0308, TYPE_0),
                 walks(2, 255, 0x0308, [1, 2, 255, 8], &[0, 1, 2]),
                 walks(2, 255, 0x03FF, [1, 2, 255, 0xFF], &[0, 1, 2]),
             ],
@@ -267,7 +292,7 @@ fn paper_cases() -> Vec<Case> {
             "C12",
             chain_of_three(downstream_3_to_5()),
             vec![
-                converts(2, 0x0400, "0 type-1"),
+                converts(2, 0x0400, TYPE_1),
                 walks(2, 255, 0x0400, [4, 2, 255, 0], &[0, 1, 2]),
                 walks(2, 255, 0x0307, [1, 2, 255, 7], &[0, 1, 2]),
             ],
@@ -318,15 +343,18 @@ fn answer_cases() -> Vec<Case> {
         case(
             "decision 2: a port claims its own ID",
             claims_own,
-            vec![reports("refused 11 id 0308 ports 4 4"), checks(11, 4, 4, Some(0x0308))],
+            vec![
+                reports("refused 11 id 0308 ports 4 by own bus 4 by own bus"),
+                checks(11, 4, 4, Some(0x0308)),
+            ],
         ),
         raw_case(
             "decision 3: reading comes before 16",
             edition_2,
             vec![
                 walk_refused(3, 254, 0x1_0000, 2, 255),
-                (Record::Claim { port: 99, target_kind: 0, target: 0 }, "2".to_string()),
-                converts(99, 0x1_0000, "2"),
+                claim_refused(99, 0, 0, 2),
+                conversion_refused(99, 0x1_0000, 2),
             ],
         ),
         raw_case(
@@ -337,10 +365,10 @@ fn answer_cases() -> Vec<Case> {
                 walk_refused(0, 255, 0x1_0000, 16, 255),
                 walk_refused(2, 255, 0x1_0000_0000, 16, 255),
                 walk_refused(1, 1, 0, 16, 255),
-                (Record::Claim { port: 1, target_kind: 0, target: 0 }, "16".to_string()),
-                (Record::Claim { port: 0, target_kind: 0, target: 0x1_0000 }, "16".to_string()),
-                converts(1, 0, "16"),
-                converts(0, 0x1_0000, "16"),
+                claim_refused(1, 0, 0, 16),
+                claim_refused(0, 0, 0x1_0000, 16),
+                conversion_refused(1, 0, 16),
+                conversion_refused(0, 0x1_0000, 16),
             ],
         ),
         raw_case(
@@ -360,7 +388,7 @@ fn answer_cases() -> Vec<Case> {
         case(
             "decision 6: the check's answer",
             vec![root(1), up(0, 0x0308)],
-            vec![reports("refused 13 id 0308 ports 1"), checks(13, 1, 255, Some(0x0308))],
+            vec![reports("refused 13 id 0308 ports 1 by own"), checks(13, 1, 255, Some(0x0308))],
         ),
         case(
             "decision 7: own ID before claim",
@@ -374,12 +402,12 @@ fn answer_cases() -> Vec<Case> {
         case(
             "decision 8: 2, 9 before 4, 4",
             pairs_at_0500(0x0003),
-            vec![reports("refused 11 id 0500 ports 2 9"), checks(11, 2, 9, Some(0x0500))],
+            vec![reports("refused 11 id 0500 ports 2 by bus 9 by bus"), checks(11, 2, 9, Some(0x0500))],
         ),
         case(
             "decision 8: 2, 2 before both",
             pairs_at_0500(0x0500),
-            vec![reports("refused 11 id 0500 ports 2 2")],
+            vec![reports("refused 11 id 0500 ports 2 by own bus 2 by own bus")],
         ),
         case(
             "decision 9: doubled holders",
@@ -475,38 +503,34 @@ fn register_cases() -> Vec<Case> {
             vec![ari().vector(Rid, shape(0, 5, 32), &[0]).secondary_range(0x21, 0)],
             vec![
                 reports("ports 1/clear"),
-                converts(0, 0x01F9, "0 type-0"),
+                converts(0, 0x01F9, TYPE_0),
                 walks(2, 255, 0x01F9, [1, 0, 255, 0xF9], &[0]),
             ],
         ),
-        case("decision 13: VGA Enable is not used", vec![vga], vec![claims_address(0, 0xA_0000, false)]),
+        case("decision 13: VGA Enable is not used", vec![vga], vec![claims_address(0, 0xA_0000, NONE)]),
         case(
             "decision 14: entries past the space",
             vec![edge_vectors, root(1).prefetchable(4096, 4096)],
             vec![
                 reports("ports 2/clear"),
-                claims_id(0, 0xFFF8, true),
-                claims_id(0, 0, false),
-                claims_address(0, 0xFFFF_FFFF, true),
-                claims_address(0, 0x1_0000_0000, false),
-                claims_address(0, u64::MAX, true),
-                claims_address(0, 0, false),
+                claims_id(0, 0xFFF8, RID),
+                claims_id(0, 0, NONE),
+                claims_address(0, 0xFFFF_FFFF, LOW),
+                claims_address(0, 0x1_0000_0000, NONE),
+                claims_address(0, u64::MAX, HIGH),
+                claims_address(0, 0, NONE),
             ],
         ),
         case(
             "decision 14: High entries below 4 GiB",
             vec![high_from_0.with_memory_space(true)],
-            vec![
-                reports("ports 1/clear"),
-                claims_address(0, 0, false),
-                claims_address(0, 0xFFFF_FFFF, false),
-            ],
+            vec![reports("ports 1/clear"), claims_address(0, 0, NONE), claims_address(0, 0xFFFF_FFFF, NONE)],
         ),
         case("decision 15: reserved bits", vec![reserved], vec![reports("ports 1/clear")]),
         case(
             "decision 16: supported, not enabled",
             vec![not_enabled],
-            vec![reports("ports 1/clear"), claims_id(0, 0xFFFF, false)],
+            vec![reports("ports 1/clear"), claims_id(0, 0xFFFF, NONE)],
         ),
         case(
             "decision 16: its size still counts",
@@ -563,7 +587,11 @@ fn reading_cases() -> Vec<Case> {
         six("decision 18: a second child", vec![root(0), up(0, 1), up(0, 2)]),
         six("decision 18: downstream below root", vec![root(0), down(0, 1)]),
         six("decision 18: downstream below downstream", vec![root(0), up(0, 1), down(1, 2), down(2, 3)]),
-        case("decision 19: 16 ports on a chain", chain(0, 16, 1), refused("refused 13 id 0000 ports 1")),
+        case(
+            "decision 19: 16 ports on a chain",
+            chain(0, 16, 1),
+            refused("refused 13 id 0000 ports 1 by own"),
+        ),
         case("decision 19: 17 ports on a chain", chain(0, 17, 1), refused("refused 7 ports 16")),
         case("decision 19: 19 ports on a chain", chain(0, 19, 1), refused("refused 7 ports 16")),
         raw_case("decision 20: the lowest start", starts, refused("refused 10 ports 1")),
@@ -622,9 +650,9 @@ fn walking_cases() -> Vec<Case> {
             "decision 25: no wrap past unit 8,191",
             flattened,
             vec![
-                converts(1, 0xFFF8, "0 type-0"),
-                converts(1, 0xFFF0, "0 type-1"),
-                converts(1, 0x0000, "0 type-1"),
+                converts(1, 0xFFF8, TYPE_0),
+                converts(1, 0xFFF0, TYPE_1),
+                converts(1, 0x0000, TYPE_1),
                 walks(2, 255, 0xFFF8, [2, 2, 255, 0], &[0, 1]),
                 walks(2, 255, 0x0200, [2, 3, 255, 0], &[0, 1]),
                 walks(2, 255, 0x0300, [4, 1, 255, 0], &[0, 1]),
@@ -634,11 +662,11 @@ fn walking_cases() -> Vec<Case> {
             "decision 25: an ID that only the pair claims",
             by_pair_only,
             vec![
-                converts(0, 0x0308, "0 type-0"),
-                converts(0, 0x0300, "0 type-1"),
-                converts(0, 0x0100, "0 type-0"),
-                converts(0, 0x0108, "0 unsupported"),
-                converts(0, 0x0400, "0 not-claimed"),
+                converts(0, 0x0308, TYPE_0),
+                converts(0, 0x0300, TYPE_1),
+                converts(0, 0x0100, TYPE_0),
+                converts(0, 0x0108, UNSUPPORTED),
+                converts(0, 0x0400, NOT_CLAIMED),
             ],
         ),
         case(
@@ -646,12 +674,12 @@ fn walking_cases() -> Vec<Case> {
             vec![root(0xFFFF).buses(0, 1), root(0xFFFE).buses(0, 0), root(0xFFFD).buses(3, 2)],
             vec![
                 reports("ports 3/clear"),
-                claims_id(0, 0, true),
-                claims_id(0, 0x01FF, true),
-                claims_id(0, 0x0200, false),
-                claims_id(1, 0, false),
-                claims_id(2, 0x0300, false),
-                claims_id(2, 0x0200, false),
+                claims_id(0, 0, BUS),
+                claims_id(0, 0x01FF, BUS),
+                claims_id(0, 0x0200, NONE),
+                claims_id(1, 0, NONE),
+                claims_id(2, 0x0300, NONE),
+                claims_id(2, 0x0200, NONE),
             ],
         ),
         case(
@@ -694,31 +722,31 @@ fn first_build_cases() -> Vec<Case> {
             "first build: 4 GiB is the edge of no register",
             vec![high(0, 5, 0, &[0]), high(1, 6, 0, &[0])],
             vec![
-                reports("refused 12 addr 0000000100000000 ports 0 1"),
+                reports("refused 12 addr 0000000100000000 ports 0 by high 1 by high"),
                 checks(12, 0, 1, Some(0x1_0000_0000)),
             ],
         ),
         case(
             "first build: 4 GiB is the least address not claimed above",
             vec![root(1).buses(1, 1), DraftPort { kind: UPSTREAM, parent: 0, ..high(0x0100, 7, 0, &[0]) }],
-            vec![reports("refused 14 addr 0000000100000000 ports 1")],
+            vec![reports("refused 14 addr 0000000100000000 ports 1 by high")],
         ),
         case(
             "first build: the last address",
             vec![root(0).memory(0, 0), top()],
             vec![
                 reports("ports 2/clear"),
-                claims_address(1, u64::MAX, true),
-                claims_address(1, u64::MAX - 0xF_FFFF, true),
-                claims_address(1, u64::MAX - 0x10_0000, false),
-                claims_address(1, 0, false),
+                claims_address(1, u64::MAX, PREF),
+                claims_address(1, u64::MAX - 0xF_FFFF, PREF),
+                claims_address(1, u64::MAX - 0x10_0000, NONE),
+                claims_address(1, 0, NONE),
                 walks(1, 255, u64::MAX, [1, 1, 255, 0], &[1]),
             ],
         ),
         case(
             "first build: overlap at the last MiB",
             vec![high(0, 0, 0xF_FFFF_FFFF, &[0]), top()],
-            vec![reports("refused 12 addr fffffffffff00000 ports 0 1")],
+            vec![reports("refused 12 addr fffffffffff00000 ports 0 by high 1 by pref")],
         ),
         case(
             "first build: High does not come round",
@@ -729,18 +757,18 @@ fn first_build_cases() -> Vec<Case> {
             ],
             vec![
                 reports("ports 3/clear"),
-                claims_address(0, 0x1_0000_0000, false),
-                claims_address(0, u64::MAX, true),
-                claims_address(2, u64::MAX, false),
+                claims_address(0, 0x1_0000_0000, NONE),
+                claims_address(0, u64::MAX, HIGH),
+                claims_address(2, u64::MAX, NONE),
             ],
         ),
         case(
             "first build: all-zero Prefetchable",
             vec![all_zero_prefetchable],
             vec![
-                claims_address(0, 0, true),
-                claims_address(0, 0xF_FFFF, true),
-                claims_address(0, 0x10_0000, false),
+                claims_address(0, 0, PREF),
+                claims_address(0, 0xF_FFFF, PREF),
+                claims_address(0, 0x10_0000, NONE),
             ],
         ),
         case(
@@ -760,12 +788,12 @@ fn first_build_cases() -> Vec<Case> {
         case(
             "first build: overlap at FFFFh",
             vec![root(0xFFFF), last_unit(0)],
-            vec![reports("refused 11 id ffff ports 0 1"), checks(11, 0, 1, Some(0xFFFF))],
+            vec![reports("refused 11 id ffff ports 0 by own 1 by rid"), checks(11, 0, 1, Some(0xFFFF))],
         ),
         case(
             "first build: overlap of the last unit",
             vec![last_unit(0), root(0x0001), last_unit(2)],
-            vec![reports("refused 11 id fff8 ports 0 2")],
+            vec![reports("refused 11 id fff8 ports 0 by rid 2 by rid")],
         ),
         case(
             "first build: overlap far apart in number",
@@ -776,7 +804,7 @@ fn first_build_cases() -> Vec<Case> {
                     _ => root(port),
                 })
                 .collect(),
-            vec![reports("refused 11 id 0338 ports 2 9")],
+            vec![reports("refused 11 id 0338 ports 2 by rid 9 by bus")],
         ),
         case(
             "first build: overlap between granularities",
@@ -784,12 +812,12 @@ fn first_build_cases() -> Vec<Case> {
                 root(0).vector(Low, shape(0, 0, 0x10), &[3, 9]).with_memory_space(true),
                 root(1).vector(Low, shape(0, 3, 0x10), &[1]).with_memory_space(true),
             ],
-            vec![reports("refused 12 addr 0000000001900000 ports 0 1")],
+            vec![reports("refused 12 addr 0000000001900000 ports 0 by low 1 by low")],
         ),
         case(
             "first build: Prefetchable against High",
             vec![root(0).prefetchable(0x1030, 0x1031), high(1, 0, 16, &[0])],
-            vec![reports("refused 12 addr 0000000103000000 ports 0 1")],
+            vec![reports("refused 12 addr 0000000103000000 ports 0 by pref 1 by high")],
         ),
         case(
             "first build: number 15 by itself",
@@ -802,12 +830,12 @@ fn first_build_cases() -> Vec<Case> {
                 root(0).vector(Low, shape(0, 0, 0), &[0, 1, 2, 3]).with_memory_space(true),
                 root(0).memory(0, 7),
             ),
-            vec![reports("refused 14 addr 0000000000400000 ports 1")],
+            vec![reports("refused 14 addr 0000000000400000 ports 1 by mem")],
         ),
         case(
             "first build: the end of a High granule above",
             parent_and_child(high(0, 1, 16, &[0, 1, 3]), root(0).prefetchable(0x1000, 0x1FFF)),
-            vec![reports("refused 14 addr 0000000140000000 ports 1")],
+            vec![reports("refused 14 addr 0000000140000000 ports 1 by pref")],
         ),
         case(
             "first build: the end of a range above",
@@ -815,7 +843,7 @@ fn first_build_cases() -> Vec<Case> {
                 root(0).memory(0, 2).prefetchable_type_0(3, 4),
                 root(0).vector(Low, shape(0, 4, 0), &[0]).with_memory_space(true),
             ),
-            vec![reports("refused 14 addr 0000000000500000 ports 1")],
+            vec![reports("refused 14 addr 0000000000500000 ports 1 by low")],
         ),
         case(
             "first build: an escape behind the end of a RID granule",
@@ -823,7 +851,7 @@ fn first_build_cases() -> Vec<Case> {
                 root(8).vector(Rid, shape(0, 3, 0), &[8, 4, 5, 6]).secondary_range(64, 0),
                 up(0, 0x0200).buses(1, 1),
             ],
-            vec![reports("refused 13 id 01c0 ports 1")],
+            vec![reports("refused 13 id 01c0 ports 1 by bus")],
         ),
         case(
             "first build: a completion for a downstream port",

@@ -1,7 +1,7 @@
 //! The check of a picture that reads: numbers 11 to 15.
 
 use crate::claims::Conversion;
-use crate::picture::{AddressRange, Picture, Refusal, Target, Vector, FOUR_GIB};
+use crate::picture::{AddressRange, Picture, Port, Refusal, Target, Vector, FOUR_GIB};
 
 /// A target with the ports that claim it and the ports that hold it, each lowest first.
 struct Seen {
@@ -50,16 +50,23 @@ fn see(picture: &Picture, target: Target) -> Seen {
 /// has the property, c has it too; so the least address that has it is a candidate.
 pub fn candidate_addresses(picture: &Picture) -> Vec<u64> {
     let mut candidates = vec![0, FOUR_GIB];
-    for port in picture.ports.iter().filter(|port| port.memory_space) {
-        push_range_edges(&mut candidates, port.memory);
-        push_range_edges(&mut candidates, port.prefetchable);
-        for vector in [&port.low, &port.high].into_iter().flatten() {
-            push_granule_edges(&mut candidates, vector);
-        }
-    }
+    candidates.extend(picture.ports.iter().flat_map(edges_of));
     candidates.sort_unstable();
     candidates.dedup();
     candidates
+}
+
+/// The first address of every piece that the port claims, and the first one after it.
+pub fn edges_of(port: &Port) -> Vec<u64> {
+    let mut edges = Vec::new();
+    if port.memory_space {
+        push_range_edges(&mut edges, port.memory);
+        push_range_edges(&mut edges, port.prefetchable);
+        for vector in [&port.low, &port.high].into_iter().flatten() {
+            push_granule_edges(&mut edges, vector);
+        }
+    }
+    edges
 }
 
 /// The first address of a range and the first after it, unless it ends the space.
@@ -81,7 +88,7 @@ fn push_granule_edges(candidates: &mut Vec<u64>, vector: &Vector) {
 fn refuse_overlap(number: u8, picture: &Picture, targets: &[Seen]) -> Result<(), Refusal> {
     for seen in targets {
         if let Some((first, second)) = first_pair(picture, seen) {
-            let ports = vec![first as u8, second as u8];
+            let ports = vec![picture.holder(first, seen.target), picture.holder(second, seen.target)];
             return Err(Refusal { number, target: Some(seen.target), ports });
         }
     }
@@ -112,7 +119,8 @@ fn refuse_escape(number: u8, picture: &Picture, targets: &[Seen]) -> Result<(), 
             None => false,
         });
         if let Some(&port) = escaped {
-            return Err(Refusal { number, target: Some(seen.target), ports: vec![port as u8] });
+            let ports = vec![picture.holder(port, seen.target)];
+            return Err(Refusal { number, target: Some(seen.target), ports });
         }
     }
     Ok(())

@@ -1,6 +1,6 @@
-//! What a port claims and holds, and how it converts configuration requests.
+//! What a port claims and holds, by which decoders, and how it converts configuration requests.
 
-use crate::picture::{Kind, Picture, Port, Target, FOUR_GIB};
+use crate::picture::{Kind, Named, Picture, Port, Target, Vector, FOUR_GIB};
 
 /// The bus of an ID: its upper 8 bits.
 pub fn bus(id: u16) -> u8 {
@@ -26,6 +26,60 @@ pub enum Conversion {
     Unsupported,
 }
 
+impl Conversion {
+    /// The value that the conversion call writes for it.
+    pub fn code(&self) -> u32 {
+        match self {
+            Conversion::NotClaimed => 0,
+            Conversion::Type0 => 1,
+            Conversion::Type1 => 2,
+            Conversion::Unsupported => 3,
+        }
+    }
+}
+
+/// The decoders of a port, each true if it claims the target.
+#[derive(Clone, Copy, Debug, Default, PartialEq, Eq)]
+pub struct Decoders {
+    pub bus: bool,
+    pub rid: bool,
+    pub mem: bool,
+    pub pref: bool,
+    pub low: bool,
+    pub high: bool,
+}
+
+impl Decoders {
+    /// Does at least one of them claim the target?
+    pub fn any(&self) -> bool {
+        self.bus || self.rid || self.mem || self.pref || self.low || self.high
+    }
+
+    /// The value that the claim call writes for them: bit 0 bus, 1 rid, 2 mem, 3 pref, 4 low, 5 high.
+    pub fn bits(&self) -> u32 {
+        let of_ids = self.bus as u32 | (self.rid as u32) << 1;
+        let windows = (self.mem as u32) << 2 | (self.pref as u32) << 3;
+        let vectors = (self.low as u32) << 4 | (self.high as u32) << 5;
+        of_ids | windows | vectors
+    }
+}
+
+/// Why a port holds a target: it is the port's own ID, which is no claim, or decoders claim it.
+#[derive(Clone, Copy, Debug, PartialEq, Eq)]
+pub struct Holding {
+    pub own: bool,
+    pub decoders: Decoders,
+}
+
+impl Holding {
+    /// Of a text for own and one for each decoder, in their order, those that apply.
+    pub fn those_of<'a>(&self, texts: [&'a str; 7]) -> Vec<&'a str> {
+        let Decoders { bus, rid, mem, pref, low, high } = self.decoders;
+        let applies = [self.own, bus, rid, mem, pref, low, high];
+        texts.into_iter().zip(applies).filter(|(_, applies)| *applies).map(|(text, _)| text).collect()
+    }
+}
+
 impl Port {
     /// Does the bus pair claim the ID? The pair 0, 0 claims nothing, and so does an upside-down one.
     pub fn bus_pair_claims(&self, id: u16) -> bool {
@@ -33,28 +87,48 @@ impl Port {
         !closed && self.secondary <= bus(id) && bus(id) <= self.subordinate
     }
 
-    /// Does the port claim the ID, by its bus pair or its RID vector?
-    pub fn claims_id(&self, id: u16) -> bool {
-        self.bus_pair_claims(id) || self.rid.as_ref().is_some_and(|rid| rid.claims(id as u64))
+    /// The decoders that claim the ID: the bus pair and the RID vector can.
+    fn decoders_of_id(&self, id: u16) -> Decoders {
+        let rid = self.rid.as_ref().is_some_and(|rid| rid.claims(id as u64));
+        Decoders { bus: self.bus_pair_claims(id), rid, ..Decoders::default() }
     }
 
-    /// Does the port claim the address, by any of its four decoders?
-    pub fn claims_address(&self, address: u64) -> bool {
+    /// The decoders that claim the address: the other four can, with Memory Space Enable.
+    fn decoders_of_address(&self, address: u64) -> Decoders {
         if !self.memory_space {
-            return false;
+            return Decoders::default();
         }
-        let vector = if address < FOUR_GIB { &self.low } else { &self.high };
-        self.memory.contains(address)
-            || self.prefetchable.contains(address)
-            || vector.as_ref().is_some_and(|vector| vector.claims(address))
+        let claims = |vector: &Option<Vector>| vector.as_ref().is_some_and(|vector| vector.claims(address));
+        Decoders {
+            mem: self.memory.contains(address),
+            pref: self.prefetchable.contains(address),
+            low: address < FOUR_GIB && claims(&self.low),
+            high: address >= FOUR_GIB && claims(&self.high),
+            ..Decoders::default()
+        }
     }
 
-    /// Does the port claim the target?
-    pub fn claims(&self, target: Target) -> bool {
+    /// The decoders that claim the target.
+    pub fn decoders(&self, target: Target) -> Decoders {
         match target {
-            Target::Id(id) => self.claims_id(id),
-            Target::Address(address) => self.claims_address(address),
+            Target::Id(id) => self.decoders_of_id(id),
+            Target::Address(address) => self.decoders_of_address(address),
         }
+    }
+
+    /// Does the port claim the target, by at least one decoder?
+    pub fn claims(&self, target: Target) -> bool {
+        self.decoders(target).any()
+    }
+
+    /// Does the port claim the ID?
+    pub fn claims_id(&self, id: u16) -> bool {
+        self.claims(Target::Id(id))
+    }
+
+    /// Does the port claim the address?
+    pub fn claims_address(&self, address: u64) -> bool {
+        self.claims(Target::Address(address))
     }
 
     /// Is the target the port's own ID?
@@ -65,6 +139,11 @@ impl Port {
     /// A port holds an ID that is its own or that it claims, and an address that it claims.
     pub fn holds(&self, target: Target) -> bool {
         self.owns(target) || self.claims(target)
+    }
+
+    /// Why the port holds the target, if it does.
+    fn holding(&self, target: Target) -> Holding {
+        Holding { own: self.owns(target), decoders: self.decoders(target) }
     }
 
     /// Is RID decoding enabled and the ID in the Secondary range?
@@ -96,6 +175,11 @@ impl Port {
 }
 
 impl Picture {
+    /// A port that holds the target, with why it does.
+    pub fn holder(&self, port: usize, target: Target) -> Named {
+        Named { port: port as u8, holding: Some(self.ports[port].holding(target)) }
+    }
+
     /// The ports at a place that hold the target, lowest first.
     pub fn holders_at(&self, place: Option<usize>, target: Target) -> Vec<usize> {
         self.ports_where(place, |port| port.holds(target))

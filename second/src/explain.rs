@@ -1,9 +1,9 @@
 //! The report in words: its lines, and one sentence more that says what the number means here.
 
-use crate::claims::Conversion;
+use crate::claims::{Conversion, Holding};
 use crate::draft::{Which, ALL_VECTORS};
 use crate::judge::Judge;
-use crate::picture::{header_fields, records_of, Kind, Picture, Record, Refusal, Setting, Target};
+use crate::picture::{header_fields, records_of, Kind, Named, Picture, Record, Refusal, Setting, Target};
 use crate::words::{granularity_text, id_text, kind_text, start_text, vector_name};
 
 /// The texts of the numbers 0 to 15, as tests/number-texts has them.
@@ -30,6 +30,17 @@ pub const NUMBER_TEXTS: [&str; 16] = [
 /// What follows the text of number 0.
 const CLEAR: &str =
     ": no ID or address has two holders at one place, and no port holds what its parent does not claim";
+
+/// How a port holds a target: as its own ID, and through each decoder.
+const MANNERS: [&str; 7] = [
+    " as its own ID",
+    " through its bus range",
+    " through its RID vector",
+    " through its memory window",
+    " through its prefetchable window",
+    " through its MEM Low vector",
+    " through its MEM High vector",
+];
 
 /// What the report program prints with `explain`.
 pub fn explain(bytes: &[u8]) -> String {
@@ -82,7 +93,7 @@ fn header_text(bytes: &[u8], number: u8) -> String {
 /// Numbers 6 to 10, each of which names one port, or the end.
 fn record_text(bytes: &[u8], refusal: &Refusal) -> String {
     let records = records_of(bytes);
-    let port = refusal.ports[0] as usize;
+    let port = refusal.ports[0].port as usize;
     match refusal.number {
         6 => format!(": {}", misplaced_port(&records, port)),
         7 => format!(": {}", port_in_tree(&records, port)),
@@ -204,23 +215,33 @@ fn target_text(target: Target) -> String {
     }
 }
 
+/// How a port holds the target, where one is named: ` as its own ID and through its RID vector`.
+fn manner_text(holding: Option<Holding>) -> String {
+    holding.map_or(Vec::new(), |holding| holding.those_of(MANNERS)).join(" and")
+}
+
 /// Numbers 11 to 15.
 fn check_text(bytes: &[u8], picture: &Picture, refusal: &Refusal) -> String {
     let records = records_of(bytes);
-    let named = |port: u8| port_in_tree(&records, port as usize);
+    let in_tree = |named: &Named| port_in_tree(&records, named.port as usize);
+    let holder = |named: &Named| in_tree(named) + &manner_text(named.holding);
     match (refusal.target, refusal.ports.as_slice()) {
-        (Some(target), [port, other]) if port == other => {
-            format!(": {} claims its own {}", named(*port), target_text(target))
+        (Some(target), [named, other]) if named.port == other.port => {
+            let claim = named.holding.map(|holding| Holding { own: false, ..holding });
+            format!(": {} claims its own {}{}", in_tree(named), target_text(target), manner_text(claim))
         }
         (Some(target), [first, second]) => {
-            format!(": {} is held by {} and by {}", target_text(target), named(*first), named(*second))
+            format!(": {} is held by {} and by {}", target_text(target), holder(first), holder(second))
         }
-        (Some(target), [port]) => {
-            let parent = records[*port as usize].parent();
+        (Some(target), [named]) => {
+            let parent = records[named.port as usize].parent();
             let target = target_text(target);
-            format!(": {target} is held by {}, and port {parent} does not claim it", named(*port))
+            format!(": {target} is held by {}, and port {parent} does not claim it", holder(named))
         }
-        (_, ports) => format!(": {}, and {}", named(ports[0]), conversion_text(picture, ports[0] as usize)),
+        (_, ports) => {
+            let unreached = &ports[0];
+            format!(": {}, and {}", in_tree(unreached), conversion_text(picture, unreached.port as usize))
+        }
     }
 }
 

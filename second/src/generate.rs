@@ -3,6 +3,7 @@
 use crate::batch::Record;
 use crate::breaking::{break_once, shake};
 use crate::cases::all_cases;
+use crate::claim_calls::{claim_calls, claim_calls_on_nothing, holders_call};
 use crate::draft::{Draft, DraftPort, NO_PARENT, ROOT, UPSTREAM};
 use crate::judge::Judge;
 use crate::picture::{read, Picture, Port, Refusal, Target, Vector, FOUR_GIB};
@@ -14,6 +15,7 @@ use crate::spoil::{
 };
 use crate::topology::{grow, port_count, ALL_FORMS};
 use crate::trials::write_trials;
+use crate::widen::widen;
 use crate::wild::{add_noise, make_memory_wild, wild};
 
 /// Numbers that are no start anywhere; some would be one if they were cut to 8 or 16 bits.
@@ -23,7 +25,7 @@ pub const BAD_STARTS: [u32; 8] = [64, 254, 256, 300, 511, 0xFF00, 0x1_0000, u32:
 pub const BAD_KINDS: [u32; 5] = [3, 255, 256, 258, u32::MAX];
 
 /// IDs over FFFFh, some of which would be good IDs if they were cut.
-const LONG_IDS: [u64; 4] = [0x1_0000, 0x1_0308, 0x1_0000_0000, u64::MAX];
+pub const LONG_IDS: [u64; 4] = [0x1_0000, 0x1_0308, 0x1_0000_0000, u64::MAX];
 
 /// Numbers in turn, those whose sentences have many forms more than once.
 const TURNS: [u8; 15] = [1, 6, 2, 8, 3, 9, 6, 4, 5, 8, 7, 6, 9, 10, 15];
@@ -99,7 +101,7 @@ fn unreached_picture(random: &mut Random) -> Vec<u8> {
     Draft::of(vec![root, DraftPort::silent(UPSTREAM, 0, own_id)]).bytes()
 }
 
-/// The hand-written cases and all edges of reading, as a batch.
+/// The hand-written cases and all edges of reading, as a batch; at every eighth edge holders are asked for.
 pub fn hand_written() -> Vec<u8> {
     let mut batch = Vec::new();
     for case in all_cases() {
@@ -110,19 +112,23 @@ pub fn hand_written() -> Vec<u8> {
         }
         case.calls.iter().for_each(|(call, _)| call.write(&mut batch));
     }
-    for picture in reading_edges() {
+    for (index, picture) in reading_edges().into_iter().enumerate() {
         Record::Picture(picture).write(&mut batch);
         Record::Report.write(&mut batch);
         Record::Check.write(&mut batch);
         Record::Walk { kind: 0, start: 255, target: 0 }.write(&mut batch);
         Record::Claim { port: 0, target_kind: 0, target: 0 }.write(&mut batch);
         Record::Conversion { port: 0, id: 0 }.write(&mut batch);
+        if index % 8 == 0 {
+            Record::Holders { target_kind: 0, target: 0 }.write(&mut batch);
+        }
     }
     batch
 }
 
 /// A picture of one of the families: spoiled, wild, sound, broken once, wild in memory, or shaken;
-/// seldom a chain at the edge, or a full picture.
+/// seldom a chain at the edge, or a full picture. Half of those that the check may refuse for a target have
+/// more decoders there.
 fn random_picture(random: &mut Random) -> Vec<u8> {
     if random.percent(2) {
         return chain_at_the_edge(random);
@@ -140,6 +146,9 @@ fn random_picture(random: &mut Random) -> Vec<u8> {
             let times = random.between(2, 8);
             draft = shake(random, &draft, times);
         }
+    }
+    if !matches!(family, 3..=9) && random.percent(50) {
+        widen(random, &mut draft);
     }
     if random.percent(50) {
         add_noise(random, &mut draft);
@@ -185,7 +194,8 @@ fn write_with_calls(random: &mut Random, picture: &[u8], judge: &Judge, batch: &
     calls.iter().for_each(|call| call.write(batch));
 }
 
-/// Walks to the least target of a check and just below it, from the host and from device ports.
+/// Walks to the least target of a check and just below it, from the host and from device ports; and who
+/// holds it.
 fn calls_on_least_target(random: &mut Random, picture: &Picture, least: Target) -> Vec<Record> {
     let (kinds, target): (&[u32], u64) = match least {
         Target::Id(id) => (&[0, 0, 2], id as u64),
@@ -198,6 +208,7 @@ fn calls_on_least_target(random: &mut Random, picture: &Picture, least: Target) 
         let target = target.saturating_sub(random.pick(&[0, 0, 0, 1]));
         calls.push(Record::Walk { kind: random.pick(kinds), start: random.pick(&starts), target });
     }
+    calls.push(holders_call(least));
     calls
 }
 
@@ -205,11 +216,8 @@ fn calls_on_least_target(random: &mut Random, picture: &Picture, least: Target) 
 fn calls_on_nothing(random: &mut Random) -> Vec<Record> {
     let kind = random.pick(&[0, 1, 2, 3, 256]);
     let start = random.pick(&[255, 0, 254, 511]);
-    vec![
-        Record::Walk { kind, start, target: random.pick(&[0, 0x0308, 0x1_0000]) },
-        Record::Claim { port: random.pick(&[0, 99]), target_kind: random.below(2) as u32, target: 0 },
-        Record::Conversion { port: random.pick(&[0, 99]), id: random.pick(&[0, 0x1_0000]) },
-    ]
+    let walk = Record::Walk { kind, start, target: random.pick(&[0, 0x0308, 0x1_0000]) };
+    [vec![walk], claim_calls_on_nothing(random)].concat()
 }
 
 /// Calls on a picture that reads: all kinds, with targets at and around the edges of its ports.
@@ -227,15 +235,24 @@ fn calls_on(random: &mut Random, picture: &Picture) -> Vec<Record> {
     }
     calls.push(Record::Walk { kind: random.pick(&BAD_KINDS), start: 255, target: 0 });
     calls.push(Record::Walk { kind: 0, start: random.pick(&BAD_STARTS), target: 0 });
+    calls.extend(claim_calls(random, picture));
     calls
 }
 
 /// A walk of that kind to something around the edges of a port.
 pub fn walk_call(random: &mut Random, picture: &Picture, kind: u32) -> Record {
     let start = some_start(random, picture, kind);
+    Record::Walk { kind, start, target: some_target(random, picture, kind) }
+}
+
+/// An address for kind 1, else an ID, around the edges of a port.
+pub fn some_target(random: &mut Random, picture: &Picture, kind: u32) -> u64 {
     let aim = some_aim(random, picture);
-    let target = if kind == 1 { address_around(random, aim) } else { id_around(random, aim) };
-    Record::Walk { kind, start, target }
+    if kind == 1 {
+        address_around(random, aim)
+    } else {
+        id_around(random, aim)
+    }
 }
 
 /// The host, a device port, or sometimes where no walk can start; configuration requests come mostly

@@ -1,12 +1,16 @@
-//! The calls on a lent picture, or on picture and patch: check, walk, claim, conversion and report.
+//! The calls on a lent picture, or on picture and patch: check, walk, claim and conversion; and what the
+//! programs `report` and `claims` print.
 
 use std::cell::OnceCell;
 
 use crate::check::check;
-use crate::claims::Conversion;
+use crate::claims::{Conversion, Decoders};
 use crate::patch::put_in;
-use crate::picture::{read, Picture, Refusal, Target};
+use crate::picture::{read, Named, Picture, Refusal, Target};
 use crate::walk::{walk_configuration, walk_packet, End, Walk};
+
+/// The words for why a port holds a target: for its own ID, and for each decoder.
+const WORDS: [&str; 7] = [" own", " bus", " rid", " mem", " pref", " low", " high"];
 
 /// A lent picture, read once and checked at most once.
 pub struct Judge {
@@ -45,25 +49,27 @@ impl Judge {
         let picture = self.reading()?;
         let start = start_place(picture, start)?;
         match kind {
-            0 => Ok(walk_packet(picture, start, Target::Id(id_of(target)?))),
-            1 => Ok(walk_packet(picture, start, Target::Address(target))),
             2 => Ok(walk_configuration(picture, start, id_of(target)?)),
-            _ => Err(Refusal::bare(16)),
+            _ => Ok(walk_packet(picture, start, target_of(kind, target)?)),
         }
     }
 
-    /// Does the port claim the target? Target kind 0 is an ID, 1 an address.
-    pub fn claim(&self, port: u32, target_kind: u32, target: u64) -> Result<bool, Refusal> {
+    /// Reads, and the decoders of the port that claim the target; numbers 1 to 10, then 16.
+    pub fn claim(&self, port: u32, target_kind: u32, target: u64) -> Result<Decoders, Refusal> {
         let picture = self.reading()?;
         let port = picture.ports.get(port as usize).ok_or(Refusal::bare(16))?;
-        match target_kind {
-            0 => Ok(port.claims_id(id_of(target)?)),
-            1 => Ok(port.claims_address(target)),
-            _ => Err(Refusal::bare(16)),
-        }
+        Ok(port.decoders(target_of(target_kind, target)?))
     }
 
-    /// What the port makes of a configuration request for the ID.
+    /// Reads, and the ports that hold the target, lowest first; numbers 1 to 10, then 16.
+    pub fn holders(&self, target_kind: u32, target: u64) -> Result<Vec<Named>, Refusal> {
+        let picture = self.reading()?;
+        let target = target_of(target_kind, target)?;
+        let holders = (0..picture.ports.len()).filter(|&port| picture.ports[port].holds(target));
+        Ok(holders.map(|port| picture.holder(port, target)).collect())
+    }
+
+    /// Reads, and what the port makes of a configuration request for the ID; numbers 1 to 10, then 16.
     pub fn conversion(&self, port: u32, id: u64) -> Result<Conversion, Refusal> {
         let picture = self.reading()?;
         let port = picture.ports.get(port as usize).ok_or(Refusal::bare(16))?;
@@ -86,6 +92,25 @@ impl Judge {
         })
     }
 
+    /// The controller's claim call: the number; the decoders are written only with 0.
+    pub fn claim_call(&self, decoders: &mut u32, port: u32, target_kind: u32, target: u64) -> u32 {
+        value_call(decoders, self.claim(port, target_kind, target).map(|decoders| decoders.bits()))
+    }
+
+    /// The controller's conversion call: the number; the conversion is written only with 0.
+    pub fn conversion_call(&self, decided: &mut u32, port: u32, id: u64) -> u32 {
+        value_call(decided, self.conversion(port, id).map(|conversion| conversion.code()))
+    }
+
+    /// What the claims program prints.
+    pub fn claims(&self, target_kind: u32, target: u64) -> String {
+        match self.holders(target_kind, target) {
+            Ok(holders) if holders.is_empty() => "nobody\n".to_string(),
+            Ok(holders) => holders.iter().map(|named| format!("port {}\n", named_text(named))).collect(),
+            Err(refusal) => report_of_refusal(&refusal),
+        }
+    }
+
     /// What the report program prints.
     pub fn report(&self) -> String {
         match (self.check(), self.reading()) {
@@ -98,6 +123,15 @@ impl Judge {
 /// A target as an ID; number 16 for one over FFFFh.
 fn id_of(target: u64) -> Result<u16, Refusal> {
     u16::try_from(target).map_err(|_| Refusal::bare(16))
+}
+
+/// A target of kind 0, an ID, or of kind 1, an address; number 16 for any other kind.
+fn target_of(kind: u32, target: u64) -> Result<Target, Refusal> {
+    match kind {
+        0 => Ok(Target::Id(id_of(target)?)),
+        1 => Ok(Target::Address(target)),
+        _ => Err(Refusal::bare(16)),
+    }
 }
 
 /// Where a packet starts: the root for 255, or below a device port; else number 16.
@@ -121,13 +155,24 @@ fn answer_call(answer: &mut [u8], bytes: impl FnOnce() -> [u8; 40]) -> u32 {
     answer[0] as u32
 }
 
+/// The number 0 with a value written, or a refusal's with nothing written.
+fn value_call(place: &mut u32, value: Result<u32, Refusal>) -> u32 {
+    match value {
+        Ok(value) => {
+            *place = value;
+            0
+        }
+        Err(refusal) => refusal.number as u32,
+    }
+}
+
 /// The 40 bytes of a refusal; of number 0 where nothing is named. A least target stands in the
 /// first 8 places of the path.
 fn refusal_bytes(refusal: &Refusal) -> [u8; 40] {
     let mut bytes = [0; 40];
     bytes[0] = refusal.number;
-    bytes[2] = refusal.ports.first().copied().unwrap_or(255);
-    bytes[3] = refusal.ports.get(1).copied().unwrap_or(255);
+    bytes[2] = refusal.ports.first().map_or(255, |named| named.port);
+    bytes[3] = refusal.ports.get(1).map_or(255, |named| named.port);
     bytes[8..].fill(255);
     let least_target = match refusal.target {
         Some(Target::Id(id)) => Some(id as u64),
@@ -173,8 +218,16 @@ pub fn report_of_refusal(refusal: &Refusal) -> String {
     if !refusal.ports.is_empty() {
         line += " ports";
     }
-    for port in &refusal.ports {
-        line += &format!(" {port}");
+    for named in &refusal.ports {
+        line += &format!(" {}", named_text(named));
     }
     line + "\n"
+}
+
+/// The number of a port and, where it holds a target, why: `3 by own rid`.
+fn named_text(named: &Named) -> String {
+    match named.holding {
+        Some(holding) => format!("{} by{}", named.port, holding.those_of(WORDS).concat()),
+        None => named.port.to_string(),
+    }
 }

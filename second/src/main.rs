@@ -1,16 +1,16 @@
 //! The program: writes batches and pictures, answers batches, compares and counts answers.
 
-use std::collections::BTreeMap;
 use std::io::{Read, Write};
 use std::process::ExitCode;
 
-use second::batch::{answers, differences, Record, Records};
+use second::batch::{answers, differences};
 use second::explain::explain;
 use second::explain_trial::explain_trial;
 use second::generate::{generate, hand_written, pictures};
 use second::judge::Judge;
 use second::pairs::pairs;
 use second::samples::{sample, SAMPLE_NAMES};
+use second::tally::tally;
 use second::tree::tree;
 
 const USAGE: &str = "usage:
@@ -18,13 +18,15 @@ const USAGE: &str = "usage:
   second batch                               the hand-written batch on standard output
   second answers                             answers to the batch on standard input
   second compare EXPECTED ACTUAL BATCH       first differences; status 1 if there are any
-  second tally ANSWERS BATCH                 how often each number and end was given
+  second tally ANSWERS BATCH                 how often each number, end and set of decoders was given
   second picture SEED KIND                   a full sound picture on standard output; KIND is
                                              flat, nested, chain, high, low, rid or wide
   second pictures SEED COUNT FOLDER          random pictures, FOLDER/1.picture and so on
   second patches SEED COUNT FOLDER           random pictures with a patch each, FOLDER/1.picture, FOLDER/1.patch
                                              and so on
-  second tree                                what `fpb tree' prints of the picture on standard input
+  second claims id|addr TARGET               what `fpb claims' prints of the picture on standard input;
+                                             TARGET in hexadecimal
+  second tree                                what `fpb tree' prints of it
   second explain                             what `fpb report --explain' prints of it
   second explain PATCH                       what `fpb trial --explain' prints of it and a file with a patch
   second trial PATCH                         what `fpb trial' prints of it and a file with a patch";
@@ -44,6 +46,8 @@ fn main() -> ExitCode {
         ["picture", seed, kind] => picture_command(seed, kind),
         ["pictures", seed, count, folder] => pictures_command(seed, count, folder),
         ["patches", seed, count, folder] => patches_command(seed, count, folder),
+        ["claims", "id", target] => claims_command(0, target),
+        ["claims", "addr", target] => claims_command(1, target),
         ["tree"] => print_of_picture(tree),
         ["explain"] => print_of_picture(explain),
         ["explain", patch] => print_of_trial(patch, explain_trial),
@@ -82,6 +86,15 @@ fn standard_input() -> Result<Vec<u8>, String> {
 /// A decimal number out of the command line.
 fn number(word: &str) -> Result<u64, String> {
     word.parse().map_err(|_| format!("{word} is no number"))
+}
+
+/// A hexadecimal number out of the command line.
+fn hexadecimal(word: &str) -> Result<u64, String> {
+    let wrong = || format!("{word} is no hexadecimal number of 64 bits");
+    match word.starts_with('+') {
+        true => Err(wrong()),
+        false => u64::from_str_radix(word, 16).map_err(|_| wrong()),
+    }
 }
 
 /// `generate SEED COUNT`
@@ -128,59 +141,11 @@ fn keep(what: &str, index: usize, bytes: &[u8]) -> Result<(), String> {
 
 /// `tally ANSWERS BATCH`
 fn tally_command(lines: &str, batch: &str) -> Result<ExitCode, String> {
-    let batch = read_bytes(batch)?;
-    let lines = read_text(lines)?;
-    let mut lines = lines.lines();
-    let mut counts: BTreeMap<String, u64> = BTreeMap::new();
-    for record in Records::of(&batch) {
-        let Some(heading) = heading(&record?) else { continue };
-        let line = lines.next().ok_or("there are fewer answers than calls")?;
-        *counts.entry(format!("{heading}: {}", gist(heading, line))).or_default() += 1;
-    }
+    let counts = tally(&read_bytes(batch)?, &read_text(lines)?)?;
     for (what, count) in counts {
         println!("{count:8} {what}");
     }
     Ok(ExitCode::SUCCESS)
-}
-
-/// What the answers to a call are counted under; nothing for a record that asks nothing.
-fn heading(record: &Record) -> Option<&'static str> {
-    match record {
-        Record::Picture(_) | Record::Patch(_) => None,
-        Record::Report => Some("report"),
-        Record::Check => Some("check"),
-        Record::Walk { kind: 0, .. } => Some("walk by ID"),
-        Record::Walk { kind: 1, .. } => Some("walk by address"),
-        Record::Walk { kind: 2, .. } => Some("walk of a configuration request"),
-        Record::Walk { .. } => Some("walk of no kind"),
-        Record::Claim { .. } => Some("claim"),
-        Record::Conversion { .. } => Some("conversion"),
-        Record::TrialReport => Some("trial report"),
-        Record::TrialCheck => Some("trial check"),
-        Record::TrialWalk { kind: 0, .. } => Some("trial walk by ID"),
-        Record::TrialWalk { kind: 1, .. } => Some("trial walk by address"),
-        Record::TrialWalk { kind: 2, .. } => Some("trial walk of a configuration request"),
-        Record::TrialWalk { .. } => Some("trial walk of no kind"),
-        Record::Part { .. } => Some("part"),
-    }
-}
-
-/// What is counted of an answer line: the first two words of a report and of a part, the number of a
-/// check, number, end and crossings of a walk, and all of the others.
-fn gist(heading: &str, line: &str) -> String {
-    let (first, rest) = line.split_once(' ').unwrap_or((line, ""));
-    match heading.strip_prefix("trial ").unwrap_or(heading) {
-        "report" => match first {
-            "refused" => format!("refused {}", rest.split(' ').next().unwrap_or("")),
-            _ => "clear".to_string(),
-        },
-        "check" => format!("number {first:>2}"),
-        "part" => format!("{first} {}", rest.split(' ').next().unwrap_or("")),
-        walk if walk.starts_with("walk") => {
-            format!("number {first:>2} end {} crossings {}", &rest[2..4], &rest[8..10])
-        }
-        _ => line.to_string(),
-    }
 }
 
 /// `picture SEED KIND`
@@ -218,6 +183,12 @@ fn make_folder(folder: &str) -> Result<(), String> {
 /// Writes a file.
 fn write_file(file: &str, bytes: &[u8]) -> Result<(), String> {
     std::fs::write(file, bytes).map_err(|error| format!("{file}: {error}"))
+}
+
+/// `claims id TARGET` or `claims addr TARGET`
+fn claims_command(target_kind: u32, target: &str) -> Result<ExitCode, String> {
+    let target = hexadecimal(target)?;
+    print(Judge::new(&standard_input()?).claims(target_kind, target).as_bytes())
 }
 
 /// `tree`, or `explain` without a patch

@@ -37,7 +37,7 @@ fn giving(random: &mut Random, number: u8, draw: fn(&mut Random) -> Vec<u8>) -> 
         let new = some_new_vectors(random, &picture);
         pair = Pair { patch: PatchDraft::of(&new).bytes(), picture };
         let found = Judge::of_trial(&pair.picture, &pair.patch).check().err().unwrap_or(Refusal::bare(0));
-        let with_itself = found.ports.len() == 2 && found.ports[0] == found.ports[1];
+        let with_itself = found.ports.len() == 2 && found.ports[0].port == found.ports[1].port;
         if found.number == number && !with_itself && !new.is_empty() {
             break;
         }

@@ -132,14 +132,14 @@ fn turn_entries(of: Readable, new: &mut NewVectors, target: Target, turn: fn(&mu
 /// the parent of the one named claims it.
 pub fn repairing_vectors(random: &mut Random, of: Readable, found: &Refusal) -> Vec<NewVectors> {
     let Some(target) = found.target else { return Vec::new() };
-    let first = found.ports[0] as usize;
+    let first = found.ports[0].port as usize;
     let parent = of.picture.ports[first].parent;
     if let (13 | 14, Some(parent), true) = (found.number, parent, random.percent(50)) {
         let mut new = old_vectors(of, parent);
         turn_entries(of, &mut new, target, |byte, bit| *byte |= bit);
         return vec![new];
     }
-    let mut new = old_vectors(of, random.pick(&found.ports) as usize);
+    let mut new = old_vectors(of, random.pick(&found.ports).port as usize);
     turn_entries(of, &mut new, target, |byte, bit| *byte &= !bit);
     vec![new]
 }

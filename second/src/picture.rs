@@ -1,5 +1,7 @@
 //! Reading a picture: numbers 1 to 10, and the ports of a picture that reads.
 
+use crate::claims::Holding;
+
 pub const MIB: u64 = 1 << 20;
 pub const FOUR_GIB: u64 = 1 << 32;
 
@@ -10,12 +12,19 @@ pub enum Target {
     Address(u64),
 }
 
+/// A port that a refusal names, with why it holds the target where one is named.
+#[derive(Clone, Copy, Debug, PartialEq, Eq)]
+pub struct Named {
+    pub port: u8,
+    pub holding: Option<Holding>,
+}
+
 /// A number given back instead of an answer, with what the table says it names.
 #[derive(Clone, Debug, PartialEq, Eq)]
 pub struct Refusal {
     pub number: u8,
     pub target: Option<Target>,
-    pub ports: Vec<u8>,
+    pub ports: Vec<Named>,
 }
 
 impl Refusal {
@@ -26,7 +35,7 @@ impl Refusal {
 
     /// A refusal that names one port.
     pub fn at_port(number: u8, port: usize) -> Refusal {
-        Refusal { number, target: None, ports: vec![port as u8] }
+        Refusal { number, target: None, ports: vec![Named { port: port as u8, holding: None }] }
     }
 }
 

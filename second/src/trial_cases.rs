@@ -2,7 +2,11 @@
 //! the papers give.
 
 use crate::batch::Record;
-use crate::cases::{checks, line, root, shape, up, walk_refused, walks, Case};
+use crate::cases::{
+    checks, claims_address, claims_id, converts, line, root, shape, up, walk_refused, walks, Case, MEM, NONE,
+    NOT_CLAIMED,
+};
+use crate::claim_cases::{holds_address, holds_id};
 use crate::draft::{Draft, DraftPort, Which};
 use Which::{High, Low, Rid};
 
@@ -151,6 +155,7 @@ pub fn trial_cases() -> Vec<Case> {
         order_cases(),
         part_cases(),
         long_patch_cases(),
+        decoder_cases(),
     ]
     .into_iter()
     .flatten()
@@ -261,7 +266,8 @@ fn collision_cases() -> Vec<Case> {
     one_set[3].flip_entry(Rid, 5);
     let one_set = Draft::of(one_set).bytes();
     let owner = Draft::of(vec![root(0x0100).vector(Rid, shape(0, 0, 0x20), &[])]).bytes();
-    let at_0128 = || vec![prints("refused 11 id 0128 ports 1 3"), finds(11, 1, 3, Some(0x0128))];
+    let at_0128 =
+        || vec![prints("refused 11 id 0128 ports 1 by rid 3 by rid"), finds(11, 1, 3, Some(0x0128))];
     let doubled = vec![goes(0, 255, 0x0128, [5, 1, 3, 0], &[]), goes(0, 2, 0x0128, [5, 1, 3, 0], &[2])];
     vec![
         trial(
@@ -280,7 +286,7 @@ fn collision_cases() -> Vec<Case> {
             "item 2, accepted: a port would claim its own ID",
             owner,
             patch(1, 48, &[(0, 16)], bits(32, &[0])),
-            vec![prints("refused 11 id 0100 ports 0 0"), finds(11, 0, 0, Some(0x0100))],
+            vec![prints("refused 11 id 0100 ports 0 by own rid 0 by own rid"), finds(11, 0, 0, Some(0x0100))],
         ),
     ]
 }
@@ -295,7 +301,7 @@ fn memory_collision_cases() -> Vec<Case> {
             four(),
             low,
             vec![
-                prints("refused 12 addr 0000000010700000 ports 1 2"),
+                prints("refused 12 addr 0000000010700000 ports 1 by low 2 by low"),
                 finds(12, 1, 2, Some(0x1070_0000)),
                 goes(1, 255, 0x1070_0000, [5, 1, 2, 0], &[]),
             ],
@@ -304,7 +310,10 @@ fn memory_collision_cases() -> Vec<Case> {
             "item 2, accepted: the last entries of two new High vectors",
             four(),
             high,
-            vec![prints("refused 12 addr 00000010f0000000 ports 1 3"), finds(12, 1, 3, Some(0x10_F000_0000))],
+            vec![
+                prints("refused 12 addr 00000010f0000000 ports 1 by high 3 by high"),
+                finds(12, 1, 3, Some(0x10_F000_0000)),
+            ],
         ),
     ]
 }
@@ -327,17 +336,17 @@ fn escape_cases() -> Vec<Case> {
     vec![
         case("item 2, accepted: as it was", one(1, &[256]), "ports 2/clear"),
         case("item 2, accepted: an ID that the parent claims", one(1, &[0]), "ports 2/clear"),
-        case("item 2, accepted: an ID outside", one(1, &[1]), "refused 13 id 0110 ports 1"),
-        case("item 2, accepted: the parent lets go", one(0, &[1, 256]), "refused 13 id 0100 ports 1"),
+        case("item 2, accepted: an ID outside", one(1, &[1]), "refused 13 id 0110 ports 1 by rid"),
+        case("item 2, accepted: the parent lets go", one(0, &[1, 256]), "refused 13 id 0100 ports 1 by own"),
         case(
             "item 2, accepted: an address outside",
             one(1, &[256 + 2]),
-            "refused 14 addr 0000000010200000 ports 1",
+            "refused 14 addr 0000000010200000 ports 1 by low",
         ),
         case(
             "item 2, accepted: the parent lets memory go",
             one(0, &[0, 256 + 1]),
-            "refused 14 addr 0000000010000000 ports 1",
+            "refused 14 addr 0000000010000000 ports 1 by low",
         ),
         case("item 2, accepted: both move together", both, "ports 2/clear"),
     ]
@@ -346,7 +355,7 @@ fn escape_cases() -> Vec<Case> {
 /// Patches that make an unsound picture sound.
 fn repair_cases() -> Vec<Case> {
     let calls = vec![
-        (Record::Report, "refused 11 id 0128 ports 1 3".to_string()),
+        (Record::Report, "refused 11 id 0128 ports 1 by rid 3 by rid".to_string()),
         prints("ports 4/clear"),
         finds(0, 255, 255, None),
         walks(0, 255, 0x0128, [5, 1, 3, 0], &[]),
@@ -374,7 +383,7 @@ fn repair_cases() -> Vec<Case> {
             "item 2, accepted: other ports do not help",
             four_colliding(),
             patch(2, 56, &[(0, 24), (2, 24)], clear(32)),
-            vec![prints("refused 11 id 0128 ports 1 3")],
+            vec![prints("refused 11 id 0128 ports 1 by rid 3 by rid")],
         ),
     ]
 }
@@ -499,7 +508,7 @@ fn order_cases() -> Vec<Case> {
     edition_2[0] = 2;
     let at_the_end = || vec![prints("refused 10 ports 255"), finds(10, 255, 255, None), lies(9, 9, "10")];
     let mut colliding = all_refused(30);
-    colliding.push((Record::Report, "refused 11 id 0128 ports 1 3".to_string()));
+    colliding.push((Record::Report, "refused 11 id 0128 ports 1 by rid 3 by rid".to_string()));
     let bad_total = patch(1, 17, &[(4, 16)], vec![]);
     let bad_port = patch(2, 152, &[(1, 0), (4, 152)], clear(128));
     let later_port = patch(3, 32, &[(0, 0), (1, 0), (9, 0)], vec![]);
@@ -580,7 +589,7 @@ fn long_patch_cases() -> Vec<Case> {
             Draft::of(ports).bytes(),
             full,
             vec![
-                prints("refused 11 id 0148 ports 62 63"),
+                prints("refused 11 id 0148 ports 62 by rid 63 by rid"),
                 lies(0, 0, "0 patch 520 32"),
                 lies(63, 0, "0 patch 2536 32"),
                 lies(63, 2, "0 patch 2568 0"),
@@ -595,5 +604,66 @@ fn long_patch_cases() -> Vec<Case> {
             patch(8_749, 70_000, &rising, vec![]),
         ),
         refused(30, "item 2, number 30: one port more", patch(8_750, 70_000, &rising, vec![])),
+    ]
+}
+
+/// Two root ports, sound: one with bus 1 and MiB 100h, one with own ID 0200h and the first GiB from 4 GiB
+/// on. Each has three vectors, all clear: RID from 0100h, Low from MiB 100h, High from 4 GiB.
+fn two_ports() -> Vec<u8> {
+    let with_vectors = |port: DraftPort| {
+        let port = port.vector(Rid, shape(0, 0, 0x20), &[]);
+        port.vector(Low, shape(0, 0, 0x100), &[]).vector(High, shape(0, 0, 16), &[])
+    };
+    let first = root(0).buses(1, 1).memory(0x100, 0x100);
+    let second = root(0x0200).prefetchable(0x1000, 0x13FF);
+    Draft::of(vec![with_vectors(first), with_vectors(second)]).bytes()
+}
+
+/// The decoders of a trial are those of the picture with the patch; claims are of the picture alone.
+fn decoder_cases() -> Vec<Case> {
+    let first = |set: &[usize]| patch(1, 112, &[(0, 16)], bits(96, set));
+    let second = |set: &[usize]| patch(1, 112, &[(1, 16)], bits(96, set));
+    let both = |set: &[usize]| patch(2, 216, &[(0, 24), (1, 120)], bits(192, set));
+    let ids = |name, patch, line: &str| {
+        trial(name, two_ports(), patch, vec![prints(&format!("refused 11 id {line}"))])
+    };
+    let addresses = |name, patch, line: &str| {
+        trial(name, two_ports(), patch, vec![prints(&format!("refused 12 addr 00000{line}"))])
+    };
+    vec![
+        ids("item 3, trials: bus and rid", second(&[3]), "0118 ports 0 by bus 1 by rid"),
+        ids("item 3, trials: bus rid and rid", both(&[3, 768 + 3]), "0118 ports 0 by bus rid 1 by rid"),
+        ids("item 3, trials: rid and own", first(&[32]), "0200 ports 0 by rid 1 by own"),
+        ids("item 3, trials: rid and own rid", both(&[32, 768 + 32]), "0200 ports 0 by rid 1 by own rid"),
+        ids("item 3, trials: itself by rid", second(&[32]), "0200 ports 1 by own rid 1 by own rid"),
+        addresses("item 3, trials: mem and low", second(&[256]), "00010000000 ports 0 by mem 1 by low"),
+        addresses(
+            "item 3, trials: mem low and low",
+            both(&[256, 768 + 256]),
+            "00010000000 ports 0 by mem low 1 by low",
+        ),
+        addresses("item 3, trials: high and pref", first(&[514]), "00120000000 ports 0 by high 1 by pref"),
+        addresses(
+            "item 3, trials: high and pref high",
+            both(&[514, 768 + 514]),
+            "00120000000 ports 0 by high 1 by pref high",
+        ),
+        trial("item 3, trials: the picture's claims stay", two_ports(), second(&[3, 32, 256]), claims_stay()),
+    ]
+}
+
+/// Claims, conversions and holders of the two ports, whatever patch is lent.
+fn claims_stay() -> Vec<Call> {
+    vec![
+        prints("refused 11 id 0118 ports 0 by bus 1 by rid"),
+        (Record::Report, "ports 2/clear".to_string()),
+        claims_id(1, 0x0118, NONE),
+        claims_id(1, 0x0200, NONE),
+        claims_address(0, 0x1000_0000, MEM),
+        claims_address(1, 0x1000_0000, NONE),
+        converts(1, 0x0118, NOT_CLAIMED),
+        holds_id(0x0118, "port 0 by bus"),
+        holds_id(0x0200, "port 1 by own"),
+        holds_address(0x1000_0000, "port 0 by mem"),
     ]
 }

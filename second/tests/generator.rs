@@ -1,9 +1,9 @@
 //! The generator gives what it says, and the candidates of the check suffice.
 
-use std::collections::BTreeSet;
+use std::collections::{BTreeMap, BTreeSet};
 use std::sync::OnceLock;
 
-use second::batch::{answers, differences, Record, Records};
+use second::batch::{answers, differences, Lent, Record, Records};
 use second::check::candidate_addresses;
 use second::generate::{generate, hand_written, sound_draft};
 use second::judge::Judge;
@@ -95,14 +95,30 @@ fn the_same_seed_gives_the_same_batch() {
     assert_ne!(generate(5, 20), generate(6, 20));
 }
 
-/// The calls of a batch with their answers, worked out once for all tests.
-fn calls_with_answers() -> &'static [(Record, String)] {
-    static ANSWERED: OnceLock<Vec<(Record, String)>> = OnceLock::new();
+/// The seeds of the batches that tests/differential.sh takes, and how many pictures of each are looked at.
+const SEEDS: [u64; 2] = [1, 2];
+const PICTURES: u64 = 250;
+
+/// The records of a batch with the answers to its calls.
+fn answered(seed: u64) -> Vec<(Record, Option<String>)> {
+    let batch = generate(seed, PICTURES);
+    let mut lent = Lent::of(Vec::new(), Vec::new());
+    let records = Records::of(&batch).map(|record| record.expect("the batch is whole"));
+    records.map(|record| (record.clone(), lent.take(&record))).collect()
+}
+
+/// The records of these batches with the answers to their calls, worked out once for all tests.
+fn records_with_answers() -> &'static [(Record, Option<String>)] {
+    static ANSWERED: OnceLock<Vec<(Record, Option<String>)>> = OnceLock::new();
     ANSWERED.get_or_init(|| {
-        let batch = generate(3, 400);
-        let lines = answers(&batch).expect("the batch is whole");
-        Records::of(&batch).map(Result::unwrap).filter(Record::is_call).zip(lines).collect()
+        let batches = SEEDS.map(|seed| std::thread::spawn(move || answered(seed)));
+        batches.into_iter().flat_map(|batch| batch.join().expect("it is answered")).collect()
     })
+}
+
+/// The calls among them with their answers.
+fn calls_with_answers() -> impl Iterator<Item = (&'static Record, &'static String)> {
+    records_with_answers().iter().filter_map(|(record, answer)| Some((record, answer.as_ref()?)))
 }
 
 #[test]
@@ -146,6 +162,185 @@ fn all_numbers_of_trials_occur() {
     for answer in [(0, "picture"), (0, "patch"), (16, ""), (30, ""), (31, ""), (32, "")] {
         assert!(parted.contains(&(answer.0, answer.1.to_string())), "{answer:?}");
     }
+}
+
+/// How often each thing was counted.
+#[derive(Default)]
+struct Counts(BTreeMap<String, usize>);
+
+impl Counts {
+    /// Counts a thing once more.
+    fn add(&mut self, thing: impl Into<String>) {
+        *self.0.entry(thing.into()).or_default() += 1;
+    }
+
+    /// Each of these things was counted at least so often.
+    fn have(&self, least: usize, things: &[&str]) {
+        for thing in things {
+            let count = self.0.get(*thing).copied().unwrap_or(0);
+            assert!(count >= least, "{thing}: {count}");
+        }
+    }
+}
+
+/// The sets of decoders that can claim an ID together, and those that can claim an address.
+const OF_IDS: [&str; 3] = ["bus", "rid", "bus rid"];
+const OF_ADDRESSES: [&str; 9] =
+    ["mem", "pref", "low", "high", "mem pref", "mem low", "pref low", "mem pref low", "pref high"];
+
+/// The ports of a text with why each of them holds the target: `2 by bus 3 by own rid`.
+fn ports_with_words(text: &str) -> Vec<(u8, String)> {
+    let mut ports: Vec<(u8, String)> = Vec::new();
+    for word in text.split([' ', '/']) {
+        match (word.parse(), ports.last_mut()) {
+            (Ok(port), _) => ports.push((port, String::new())),
+            (_, Some((_, words))) if word != "by" && word != "port" => *words += &format!(" {word}"),
+            _ => {}
+        }
+    }
+    ports.into_iter().map(|(port, words)| (port, words.trim_start().to_string())).collect()
+}
+
+#[test]
+fn every_set_of_decoders_occurs_in_claims() {
+    let mut values = [BTreeMap::new(), BTreeMap::new()];
+    for (call, line) in calls_with_answers() {
+        if let (Record::Claim { target_kind: kind @ (0 | 1), .. }, Some(value)) =
+            (call, line.strip_prefix("0 "))
+        {
+            *values[*kind as usize].entry(value).or_insert(0) += 1;
+        }
+    }
+    let [ids, addresses] = values;
+    assert!(ids.keys().copied().eq(["00000000", "00000001", "00000002", "00000003"]));
+    let memory = [0, 4, 8, 12, 16, 20, 24, 28, 32, 40].map(|bits: u32| format!("{bits:08x}"));
+    assert!(addresses.keys().copied().eq(memory.iter()));
+    assert!(ids.values().chain(addresses.values()).all(|&count| count >= 20), "{ids:?} {addresses:?}");
+}
+
+#[test]
+fn every_set_of_decoders_occurs_among_holders() {
+    let (mut words_of_ports, mut answers) = (Counts::default(), Counts::default());
+    for (call, line) in calls_with_answers() {
+        if !matches!(call, Record::Holders { .. }) {
+            continue;
+        }
+        let ports = ports_with_words(line);
+        match ports.len() {
+            _ if line.starts_with("refused") => {
+                answers.add(line.split(' ').take(2).collect::<Vec<_>>().join(" "))
+            }
+            0 | 1 => answers.add(if line == "nobody" { "nobody" } else { "one" }),
+            _ => answers.add("several"),
+        }
+        ports.into_iter().for_each(|(_, words)| words_of_ports.add(words));
+    }
+    words_of_ports.have(20, &OF_IDS);
+    words_of_ports.have(20, &OF_ADDRESSES);
+    words_of_ports.have(5, &["own", "own bus", "own rid", "own bus rid"]);
+    answers.have(100, &["nobody", "one", "several", "refused 16"]);
+    answers.have(2, &["refused 1", "refused 2", "refused 3", "refused 4", "refused 5"]);
+    answers.have(2, &["refused 6", "refused 7", "refused 8", "refused 9", "refused 10"]);
+}
+
+/// What the lines of 11 to 14 say, of pictures and of trials: `12 mem low` for each port of a pair and for
+/// one that is alone, `12 mem, mem low` for a pair, and `itself own rid` for a port with itself.
+fn words_of_lines() -> Counts {
+    let mut counts = Counts::default();
+    for (call, line) in calls_with_answers() {
+        let Some((what, ports)) = line.split_once(" ports ") else { continue };
+        let number = what.split(' ').nth(1).expect("a refusal has a number");
+        if !matches!(call, Record::Report | Record::TrialReport)
+            || !matches!(number, "11" | "12" | "13" | "14")
+        {
+            continue;
+        }
+        match ports_with_words(ports).as_slice() {
+            [(first, words), (second, _)] if first == second => counts.add(format!("itself {words}")),
+            [(_, first), (_, second)] => {
+                counts.add(format!("{number} {first}, {second}"));
+                [first, second].iter().for_each(|words| counts.add(format!("{number} {words}")));
+            }
+            [(_, words)] => counts.add(format!("{number} {words}")),
+            other => panic!("{line}: {other:?}"),
+        }
+    }
+    counts
+}
+
+#[test]
+fn every_set_of_decoders_occurs_in_the_lines_of_11_to_14() {
+    let counts = words_of_lines();
+    let of = |number: u32, sets: &[&str]| {
+        sets.iter().for_each(|set| counts.have(2, &[&format!("{number} {set}")]));
+    };
+    of(11, &["own", "own bus", "own rid"]);
+    of(11, &OF_IDS);
+    of(12, &OF_ADDRESSES);
+    of(13, &["own"]);
+    of(13, &OF_IDS);
+    of(14, &OF_ADDRESSES);
+    counts.have(10, &["itself own bus", "itself own rid", "itself own bus rid"]);
+    counts.have(2, &["11 own, own", "11 own, bus", "11 bus, own", "11 own, rid", "11 rid, own"]);
+    counts.have(
+        2,
+        &["11 bus, rid", "11 rid, bus", "11 own, own rid", "11 rid, bus rid", "11 bus rid, bus rid"],
+    );
+    counts.have(
+        2,
+        &["12 mem, pref", "12 pref, mem", "12 mem, low", "12 low, mem", "12 pref, low", "12 low, pref"],
+    );
+    counts.have(2, &["12 pref, high", "12 high, pref high", "12 mem low, mem pref", "12 pref high, pref"]);
+}
+
+#[test]
+fn every_picture_is_asked_with_arguments_that_are_refused() {
+    let mut counts = Counts::default();
+    let mut count = 0;
+    for (record, _) in records_with_answers() {
+        match *record {
+            Record::Picture(ref bytes) => count = bytes.get(2).copied().unwrap_or(0) as u32,
+            Record::Report => counts.add("report"),
+            Record::Claim { target_kind, .. } if target_kind > 1 => {
+                counts.add(format!("claim kind {target_kind}"))
+            }
+            Record::Claim { port, .. } if port == count => counts.add("claim count"),
+            Record::Claim { port, .. } if port > 63 => counts.add(format!("claim port {port}")),
+            Record::Claim { target: 0x1_0000, target_kind: 0, .. } => counts.add("claim 10000h"),
+            Record::Conversion { port, .. } if port == count => counts.add("conversion count"),
+            Record::Conversion { port, .. } if port > 63 => counts.add(format!("conversion port {port}")),
+            Record::Conversion { id: 0x1_0000, .. } => counts.add("conversion 10000h"),
+            Record::Holders { target_kind, .. } if target_kind > 1 => {
+                counts.add(format!("holders kind {target_kind}"))
+            }
+            Record::Holders { target: 0x1_0000, target_kind: 0 } => counts.add("holders 10000h"),
+            _ => {}
+        }
+    }
+    counts.have(10, &["claim kind 2", "claim kind 3", "claim kind 4294967295"]);
+    counts.have(10, &["claim count", "claim port 64", "claim port 4294967295", "claim 10000h"]);
+    counts.have(
+        10,
+        &["conversion count", "conversion port 64", "conversion port 4294967295", "conversion 10000h"],
+    );
+    counts.have(10, &["holders kind 2", "holders kind 3", "holders kind 4294967295", "holders 10000h"]);
+    assert_eq!(counts.0["report"], SEEDS.len() * PICTURES as usize);
+}
+
+#[test]
+fn every_picture_is_asked_for_claims_conversions_and_holders() {
+    let mut asked = Vec::new();
+    for (call, _) in calls_with_answers() {
+        match call {
+            Record::Report => asked.push([0; 3]),
+            Record::Claim { .. } => asked.last_mut().expect("a report comes first")[0] += 1,
+            Record::Conversion { .. } => asked.last_mut().expect("a report comes first")[1] += 1,
+            Record::Holders { .. } => asked.last_mut().expect("a report comes first")[2] += 1,
+            _ => {}
+        }
+    }
+    assert_eq!(asked.len(), SEEDS.len() * PICTURES as usize);
+    assert!(asked.iter().flatten().all(|&count| count > 0));
 }
 
 #[test]

@@ -163,22 +163,123 @@ fn vectors_elsewhere() {
 
 #[test]
 fn what_the_check_finds() {
-    let own = "port 0 (00:01.0, a root port) claims its own ID 00:01.0 (0008)";
-    says(&bytes(&[root().buses(0, 1)]), "refused 11 id 0008 ports 0 0", &format!(": {own}"));
+    let own = "port 0 (00:01.0, a root port) claims its own ID 00:01.0 (0008) through its bus range";
+    let line = "refused 11 id 0008 ports 0 by own bus 0 by own bus";
+    says(&bytes(&[root().buses(0, 1)]), line, &format!(": {own}"));
     let other = DraftPort::silent(ROOT, NO_PARENT, 0x0010);
-    let holders = "is held by port 0 (00:01.0, a root port) and by port 1 (00:02.0, a root port)";
+    let holders = |manner: &str| {
+        format!(
+            "is held by port 0 (00:01.0, a root port) through its {manner} \
+             and by port 1 (00:02.0, a root port) through its {manner}"
+        )
+    };
     let buses = bytes(&[root().buses(3, 3), other.clone().buses(3, 4)]);
-    says(&buses, "refused 11 id 0300 ports 0 1", &format!(": ID 03:00.0 (0300) {holders}"));
+    let line = "refused 11 id 0300 ports 0 by bus 1 by bus";
+    says(&buses, line, &format!(": ID 03:00.0 (0300) {}", holders("bus range")));
     let memory = bytes(&[root().memory(0xE05, 0xE05), other.memory(0xE00, 0xE0F)]);
-    let line = "refused 12 addr 00000000e0500000 ports 0 1";
-    says(&memory, line, &format!(": address 00000000e0500000 {holders}"));
-    let child = DraftPort::silent(UPSTREAM, 0, 0x0100);
-    let held = "is held by port 1 (01:00.0, below port 0, 00:01.0), and port 0 does not claim it";
-    let stray = bytes(&[root().buses(1, 1), child.clone().buses(2, 2)]);
-    says(&stray, "refused 13 id 0200 ports 1", &format!(": ID 02:00.0 (0200) {held}"));
-    let stray = bytes(&[root().buses(1, 1), child.memory(0xE05, 0xE05)]);
-    let line = "refused 14 addr 00000000e0500000 ports 1";
-    says(&stray, line, &format!(": address 00000000e0500000 {held}"));
+    let line = "refused 12 addr 00000000e0500000 ports 0 by mem 1 by mem";
+    says(&memory, line, &format!(": address 00000000e0500000 {}", holders("memory window")));
+}
+
+#[test]
+fn what_a_parent_does_not_claim() {
+    let child = |own_id| DraftPort::silent(UPSTREAM, 0, own_id);
+    let held = |own_id: &str, manner: &str| {
+        format!("is held by port 1 ({own_id}, below port 0, 00:01.0) {manner}, and port 0 does not claim it")
+    };
+    let stray = bytes(&[root().buses(1, 1), child(0x0200)]);
+    let follows = format!(": ID 02:00.0 (0200) {}", held("02:00.0", "as its own ID"));
+    says(&stray, "refused 13 id 0200 ports 1 by own", &follows);
+    let stray = bytes(&[root().buses(1, 1), child(0x0100).buses(2, 2)]);
+    let follows = format!(": ID 02:00.0 (0200) {}", held("01:00.0", "through its bus range"));
+    says(&stray, "refused 13 id 0200 ports 1 by bus", &follows);
+    let stray = bytes(&[root().buses(1, 1), child(0x0100).memory(0xE05, 0xE05)]);
+    let line = "refused 14 addr 00000000e0500000 ports 1 by mem";
+    let follows = format!(": address 00000000e0500000 {}", held("01:00.0", "through its memory window"));
+    says(&stray, line, &follows);
+}
+
+/// Two root ports that hold one target: behind the line's ports and the sentence's come these texts.
+fn held_by_two(ports: [DraftPort; 2], line: &str, by: [&str; 2], target: &str, manners: [&str; 2]) {
+    let line = format!("{line} ports 0 by {} 1 by {}", by[0], by[1]);
+    let first = format!("port 0 (00:01.0, a root port) {}", manners[0]);
+    let second = format!("port 1 (00:02.0, a root port) {}", manners[1]);
+    says(&bytes(&ports), &line, &format!(": {target} is held by {first} and by {second}"));
+}
+
+#[test]
+fn how_two_ports_hold_an_id() {
+    let pair = |first: DraftPort, second: DraftPort, by, manners| {
+        let second = DraftPort { own_id: 0x0010, ..second };
+        held_by_two([first, second], "refused 11 id 0300", by, "ID 03:00.0 (0300)", manners);
+    };
+    let bus = || root().buses(3, 3);
+    let rid = |port: DraftPort| port.vector(Which::Rid, shape(0, 0x60), &[0]);
+    let (through_bus, through_rid) = ("through its bus range", "through its RID vector");
+    pair(bus(), rid(root()), ["bus", "rid"], [through_bus, through_rid]);
+    pair(rid(root()), bus(), ["rid", "bus"], [through_rid, through_bus]);
+    let both = "through its bus range and through its RID vector";
+    pair(rid(bus()), rid(root()), ["bus rid", "rid"], [both, through_rid]);
+    pair(bus(), rid(bus()), ["bus", "bus rid"], [through_bus, both]);
+}
+
+#[test]
+fn how_two_ports_hold_an_address() {
+    let other = || DraftPort::silent(ROOT, NO_PARENT, 0x0010);
+    let mem = |port: DraftPort| port.memory(0xE05, 0xE05);
+    let pref = |port: DraftPort| port.prefetchable(0xE05, 0xE05);
+    let low = |port: DraftPort| port.vector(Which::Low, shape(0, 0xE00), &[5]).with_memory_space(true);
+    let below = |ports, by, manners| {
+        let target = "address 00000000e0500000";
+        held_by_two(ports, "refused 12 addr 00000000e0500000", by, target, manners);
+    };
+    let memory = "through its memory window";
+    let window = "through its prefetchable window";
+    let vector = "through its MEM Low vector";
+    below([mem(root()), pref(other())], ["mem", "pref"], [memory, window]);
+    below([low(root()), mem(other())], ["low", "mem"], [vector, memory]);
+    let two = format!("{memory} and {vector}");
+    below([low(root()), low(mem(other()))], ["low", "mem low"], [vector, &two]);
+    let three = format!("{memory} and {window} and {vector}");
+    below([low(pref(mem(root()))), pref(other())], ["mem pref low", "pref"], [&three, window]);
+    let high = |port: DraftPort| port.vector(Which::High, shape(0, 32), &[0]).with_memory_space(true);
+    let above = |ports, by, manners| {
+        let target = "address 0000000200000000";
+        held_by_two(ports, "refused 12 addr 0000000200000000", by, target, manners);
+    };
+    let vector = "through its MEM High vector";
+    let two = format!("{window} and {vector}");
+    let pref = |port: DraftPort| port.prefetchable(0x2000, 0x2000);
+    above([high(root()), high(pref(other()))], ["high", "pref high"], [vector, &two]);
+}
+
+#[test]
+fn own_ids_in_the_sentence() {
+    let above = [root().buses(1, 4), DraftPort::silent(UPSTREAM, 0, 0x0100).buses(2, 4)];
+    let rid = |port: DraftPort| port.vector(Which::Rid, shape(0, 0x60), &[0]);
+    let first = DraftPort::silent(DOWNSTREAM, 1, 0x0200).buses(3, 3);
+    let owner = DraftPort::silent(DOWNSTREAM, 1, 0x0300);
+    let tree = "below port 1, 01:00.0, below port 0, 00:01.0)";
+    let by_port_2 = format!("is held by port 2 (02:00.0, {tree} through its bus range");
+    for (owner, by, manner) in [
+        (owner.clone(), "own", "as its own ID"),
+        (rid(owner.clone()), "own rid", "as its own ID and through its RID vector"),
+    ] {
+        let picture = bytes(&[&above[..], &[first.clone(), owner]].concat());
+        let line = format!("refused 11 id 0300 ports 2 by bus 3 by {by}");
+        let by_port_3 = format!("and by port 3 (03:00.0, {tree} {manner}");
+        says(&picture, &line, &format!(": ID 03:00.0 (0300) {by_port_2} {by_port_3}"));
+    }
+    for (claims, by, manner) in [
+        (rid(root()), "rid", "through its RID vector"),
+        (root().buses(3, 3), "bus", "through its bus range"),
+        (rid(root().buses(3, 3)), "bus rid", "through its bus range and through its RID vector"),
+    ] {
+        let picture = bytes(&[DraftPort { own_id: 0x0300, ..claims }]);
+        let line = format!("refused 11 id 0300 ports 0 by own {by} 0 by own {by}");
+        let sentence = format!(": port 0 (03:00.0, a root port) claims its own ID 03:00.0 (0300) {manner}");
+        says(&picture, &line, &sentence);
+    }
 }
 
 #[test]
@@ -254,7 +355,7 @@ fn pictures_of_all_numbers_occur_and_one_seed_gives_the_same() {
 }
 
 /// What the texts of 150 pictures, as many as tests/differential.sh takes, have somewhere.
-const PHRASES: [&str; 33] = [
+const PHRASES: [&str; 45] = [
     "it has none",
     "it has more than 65,536.",
     "the header says",
@@ -278,6 +379,18 @@ const PHRASES: [&str; 33] = [
     "the last ones do not, and",
     "is held by port",
     "claims its own ID",
+    ") as its own ID",
+    ") through its bus range",
+    ") through its RID vector",
+    ") through its memory window",
+    ") through its prefetchable window",
+    ") through its MEM Low vector",
+    " through its MEM High vector",
+    " as its own ID and through its RID vector",
+    " through its bus range and through its RID vector",
+    " through its memory window and through its prefetchable window",
+    " through its memory window and through its MEM Low vector",
+    " through its prefetchable window and through its MEM High vector",
     "does not claim it",
     "on as Type 1",
     "with Unsupported Request",

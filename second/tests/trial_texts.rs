@@ -144,18 +144,36 @@ fn a_good_patch_is_explained_as_the_picture_with_it() {
     let mut set = patch(1, 48, &[(3, 16)], 32);
     set[16] = 1;
     let sentence = "A port holds an address that its parent does not claim: address 00000000e0000000 \
-                    is held by port 3 (02:01.0, below port 1, 01:00.0, below port 0, 00:01.0), \
-                    and port 1 does not claim it.";
-    let wanted = format!("refused 14 addr 00000000e0000000 ports 3\n{sentence}\n");
+                    is held by port 3 (02:01.0, below port 1, 01:00.0, below port 0, 00:01.0) \
+                    through its MEM Low vector, and port 1 does not claim it.";
+    let wanted = format!("refused 14 addr 00000000e0000000 ports 3 by low\n{sentence}\n");
     assert_eq!(explain_trial(&switch(), &set), wanted);
     assert!(wanted.starts_with(&Judge::of_trial(&switch(), &set).report()));
+}
+
+#[test]
+fn how_a_port_holds_something_is_told_of_the_new_vectors() {
+    let owner = DraftPort::silent(ROOT, NO_PARENT, 0x0300);
+    let picture = bytes(&[root().buses(3, 3), with_vector(owner, Which::Rid, 0x60)]);
+    let says = |patch: &[u8], by: &str, manner: &str| {
+        let sentence = format!(
+            "An ID has two holders at one place, or a port claims its own ID: ID 03:00.0 (0300) is held by \
+             port 0 (00:01.0, a root port) through its bus range and by port 1 (03:00.0, a root port) {manner}."
+        );
+        let line = format!("refused 11 id 0300 ports 0 by bus 1 by {by}");
+        assert_eq!(explain_trial(&picture, patch), format!("{line}\n{sentence}\n"));
+    };
+    says(&patch(0, 8, &[], 0), "own", "as its own ID");
+    let mut set = patch(1, 48, &[(1, 16)], 32);
+    set[16] = 1;
+    says(&set, "own rid", "as its own ID and through its RID vector");
 }
 
 #[test]
 fn number_15_is_told_of_the_new_vectors() {
     let parent = with_vector(root(), Which::Rid, 0x20).secondary_range(0x40, 0);
     let picture = bytes(&[parent, DraftPort::silent(UPSTREAM, 0, 0x0108)]);
-    assert_eq!(Judge::new(&picture).report(), "refused 13 id 0108 ports 1\n");
+    assert_eq!(Judge::new(&picture).report(), "refused 13 id 0108 ports 1 by own\n");
     let mut set = patch(1, 48, &[(0, 16)], 32);
     set[16] = 2;
     let sentence = "A port's own ID is not both claimed and made Type 0 by its parent: \
@@ -165,7 +183,7 @@ fn number_15_is_told_of_the_new_vectors() {
 }
 
 /// What the texts of 60 pairs, as many as tests/differential.sh takes, have somewhere.
-const PHRASES: [&str; 23] = [
+const PHRASES: [&str; 28] = [
     ": it has 0 bytes.",
     ": it has 1 byte.",
     ": it has 7 bytes.",
@@ -181,6 +199,11 @@ const PHRASES: [&str; 23] = [
     "\nclear\nNothing was found wrong: ",
     " and by port ",
     "claims its own ID",
+    ") through its RID vector",
+    ") through its bus range and through its RID vector",
+    ") through its prefetchable window",
+    ") through its MEM Low vector",
+    ") through its MEM High vector",
     "refused 12 addr",
     "refused 13 id",
     "refused 14 addr",

@@ -1,0 +1,103 @@
+//! How often each number, end, crossing count, set of decoders and so on was given.
+
+use std::collections::BTreeMap;
+
+use crate::batch::{Record, Records};
+
+/// The words for the bits of a claim, bit 0 first.
+const DECODERS: [&str; 6] = ["bus", "rid", "mem", "pref", "low", "high"];
+
+/// The words for the values of a conversion.
+const CONVERSIONS: [&str; 4] = ["not claimed", "Type 0", "Type 1", "Unsupported Request"];
+
+/// Counts the answers to a batch under what they were asked and what is counted of them.
+pub fn tally(batch: &[u8], answers: &str) -> Result<BTreeMap<String, u64>, String> {
+    let mut lines = answers.lines();
+    let mut counts = BTreeMap::new();
+    for record in Records::of(batch) {
+        let Some(heading) = heading(&record?) else { continue };
+        let line = lines.next().ok_or("there are fewer answers than calls")?;
+        *counts.entry(format!("{heading}: {}", gist(heading, line))).or_default() += 1;
+    }
+    Ok(counts)
+}
+
+/// What the answers to a call are counted under; nothing for a record that asks nothing.
+fn heading(record: &Record) -> Option<&'static str> {
+    match record {
+        Record::Picture(_) | Record::Patch(_) => None,
+        Record::Report => Some("report"),
+        Record::Check => Some("check"),
+        Record::Walk { kind: 0, .. } => Some("walk by ID"),
+        Record::Walk { kind: 1, .. } => Some("walk by address"),
+        Record::Walk { kind: 2, .. } => Some("walk of a configuration request"),
+        Record::Walk { .. } => Some("walk of no kind"),
+        Record::Claim { .. } => Some("claim"),
+        Record::Conversion { .. } => Some("conversion"),
+        Record::Holders { .. } => Some("holders"),
+        Record::TrialReport => Some("trial report"),
+        Record::TrialCheck => Some("trial check"),
+        Record::TrialWalk { kind: 0, .. } => Some("trial walk by ID"),
+        Record::TrialWalk { kind: 1, .. } => Some("trial walk by address"),
+        Record::TrialWalk { kind: 2, .. } => Some("trial walk of a configuration request"),
+        Record::TrialWalk { .. } => Some("trial walk of no kind"),
+        Record::Part { .. } => Some("part"),
+    }
+}
+
+/// What is counted of an answer line: the first two words of a report and of a part, the number of a
+/// check, number, end and crossings of a walk, the decoders of a claim, the value of a conversion, and
+/// how many hold a target.
+fn gist(heading: &str, line: &str) -> String {
+    let (first, rest) = line.split_once(' ').unwrap_or((line, ""));
+    match heading.strip_prefix("trial ").unwrap_or(heading) {
+        "report" => match first {
+            "refused" => first_two_words(line),
+            _ => "clear".to_string(),
+        },
+        "check" => format!("number {first:>2}"),
+        "claim" => value_gist(first, rest, decoders_words),
+        "conversion" => value_gist(first, rest, conversion_words),
+        "holders" => holders_gist(line),
+        "part" => first_two_words(line),
+        _ => format!("number {first:>2} end {} crossings {}", &rest[2..4], &rest[8..10]),
+    }
+}
+
+/// The first two words of a line, or the one that it has.
+fn first_two_words(line: &str) -> String {
+    line.split(' ').take(2).collect::<Vec<_>>().join(" ")
+}
+
+/// The number of a claim or a conversion, and what was written: words for it with 0, else the digits.
+fn value_gist(number: &str, digits: &str, words: fn(u32) -> String) -> String {
+    match (number, u32::from_str_radix(digits, 16)) {
+        ("0", Ok(value)) => format!("number  0 {}", words(value)),
+        _ => format!("number {number:>2} {digits}"),
+    }
+}
+
+/// The words for a set of decoders.
+fn decoders_words(bits: u32) -> String {
+    let is_set = |place: &usize| bits >> place & 1 == 1;
+    let words: Vec<&str> = (0..DECODERS.len()).filter(is_set).map(|place| DECODERS[place]).collect();
+    match words.is_empty() {
+        true => "none".to_string(),
+        false => words.join(" "),
+    }
+}
+
+/// The word for a conversion.
+fn conversion_words(code: u32) -> String {
+    CONVERSIONS.get(code as usize).unwrap_or(&"of no kind").to_string()
+}
+
+/// How many ports hold a target, or the number that refuses.
+fn holders_gist(line: &str) -> String {
+    match line.split('/').count() {
+        _ if line == "nobody" => "nobody".to_string(),
+        _ if line.starts_with("refused") => first_two_words(line),
+        1 => "one port".to_string(),
+        _ => "several ports".to_string(),
+    }
+}
