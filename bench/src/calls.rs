@@ -25,7 +25,7 @@ pub enum Side {
 pub struct Work {
     picture: Vec<u8>,
     walks: Vec<(u32, u32, u64)>,
-    claims: Vec<(u32, bool, u64)>,
+    claims: Vec<(u32, u32, u64)>,
 }
 
 /// A row of numbers that only looks random.
@@ -74,8 +74,8 @@ impl Work {
             let start = if from_host { 255 } else { starts[numbers.next() as usize % starts.len()] };
             walks.push((kind, start, target));
             let port = numbers.next() as u32 % count;
-            let by_id = index % 2 == 0;
-            claims.push((port, by_id, if by_id { numbers.id(&picture) } else { numbers.address() }));
+            let of_address = index % 2;
+            claims.push((port, of_address, if of_address == 1 { numbers.address() } else { numbers.id(&picture) }));
         }
         Work { picture, walks, claims }
     }
@@ -114,14 +114,14 @@ impl Work {
                 }
             }
             Kind::Claim => {
-                for &(port, by_id, target) in &self.claims {
-                    let code = match (side, by_id) {
-                        (Side::Proved, true) => proved::claim_id(&self.picture, port, target as u16),
-                        (Side::Proved, false) => proved::claim_address(&self.picture, port, target),
-                        (Side::Plain, true) => plain::claim_id(&self.picture, port, target as u16),
-                        (Side::Plain, false) => plain::claim_address(&self.picture, port, target),
+                for &(port, kind, target) in &self.claims {
+                    let mut decoders = 0;
+                    let number = match side {
+                        Side::Proved => proved::claim(&self.picture, port, kind, target, &mut decoders),
+                        Side::Plain => plain::claim(&self.picture, port, kind, target, &mut decoders),
                     };
-                    mix(&code.to_le_bytes());
+                    mix(&number.to_le_bytes());
+                    mix(&decoders.to_le_bytes());
                 }
             }
             Kind::Read => {

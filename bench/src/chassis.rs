@@ -18,6 +18,24 @@ pub enum Holders {
     Both(PortNo, PortNo),
 }
 
+// The decoders of a port that claim a target, each by its name.
+#[derive(Clone, Copy)]
+pub struct Decoders {
+    pub bus: bool,
+    pub rid: bool,
+    pub mem: bool,
+    pub pref: bool,
+    pub low: bool,
+    pub high: bool,
+}
+
+impl Decoders {
+    // Whether at least one decoder claims the target.
+    pub fn at_least_one(self) -> bool {
+        self.bus | self.rid | self.mem | self.pref | self.low | self.high
+    }
+}
+
 // What a port makes of a configuration request that it is about to be crossed by.
 #[derive(Clone, Copy)]
 pub enum Conversion {

@@ -1,6 +1,6 @@
 //! The same calls of the port; none is inlined into the clock's loop, as none of the proved ones can be.
 
-use bench::ids::{Rid, Target};
+use bench::chassis::Decoders;
 use bench::judge::ClaimAnswer;
 use bench::picture::Reading;
 
@@ -22,20 +22,22 @@ pub fn read(picture: &[u8]) -> u32 {
     }
 }
 
-fn code(answer: ClaimAnswer) -> u32 {
-    match answer {
+fn bits(by: Decoders) -> u32 {
+    by.bus as u32
+        + ((by.rid as u32) << 1)
+        + ((by.mem as u32) << 2)
+        + ((by.pref as u32) << 3)
+        + ((by.low as u32) << 4)
+        + ((by.high as u32) << 5)
+}
+
+#[inline(never)]
+pub fn claim(picture: &[u8], port: u32, kind: u32, target: u64, decoders: &mut u32) -> u32 {
+    match bench::judge::claim(picture, port, kind, target) {
         ClaimAnswer::Refused(refusal) => refusal.number as u32,
-        ClaimAnswer::Claimed(true) => 256,
-        ClaimAnswer::Claimed(false) => 0,
+        ClaimAnswer::Claimed(by) => {
+            *decoders = bits(by);
+            0
+        }
     }
-}
-
-#[inline(never)]
-pub fn claim_id(picture: &[u8], port: u32, id: u16) -> u32 {
-    code(bench::judge::claim(picture, port, Target::Id(Rid(id))))
-}
-
-#[inline(never)]
-pub fn claim_address(picture: &[u8], port: u32, address: u64) -> u32 {
-    code(bench::judge::claim(picture, port, Target::Addr(address)))
 }

@@ -19,9 +19,15 @@ extern "C" {
         answer: *mut u8,
         room: usize,
     ) -> u32;
+    fn fpb_claim(
+        picture: *const u8,
+        length: usize,
+        port: u32,
+        kind: u32,
+        target: u64,
+        decoders: *mut u32,
+    ) -> u32;
     fn timing_read(picture: *const u8, length: usize) -> u32;
-    fn timing_claim_id(picture: *const u8, length: usize, port: u32, id: u16) -> u32;
-    fn timing_claim_address(picture: *const u8, length: usize, port: u32, address: u64) -> u32;
 }
 
 pub fn check(picture: &[u8], answer: &mut [u8; 40]) -> u32 {
@@ -42,10 +48,6 @@ pub fn read(picture: &[u8]) -> u32 {
     unsafe { timing_read(picture.as_ptr(), picture.len()) }
 }
 
-pub fn claim_id(picture: &[u8], port: u32, id: u16) -> u32 {
-    unsafe { timing_claim_id(picture.as_ptr(), picture.len(), port, id) }
-}
-
-pub fn claim_address(picture: &[u8], port: u32, address: u64) -> u32 {
-    unsafe { timing_claim_address(picture.as_ptr(), picture.len(), port, address) }
+pub fn claim(picture: &[u8], port: u32, kind: u32, target: u64, decoders: &mut u32) -> u32 {
+    unsafe { fpb_claim(picture.as_ptr(), picture.len(), port, kind, target, decoders) }
 }

@@ -1,6 +1,6 @@
 // What a port makes of a configuration request that it is about to be crossed by.
 use crate::chassis::Conversion;
-use crate::claims::claims_id;
+use crate::claims::claims;
 use crate::claims::decoders::bus_claims;
 use crate::ids::PortNo;
 use crate::ids::Rid;
@@ -51,7 +51,7 @@ pub fn converted_by_bus(p: Port, rid: Rid) -> Conversion {
 
 // What port p makes of a configuration request for an ID.
 fn converted_id(s: &[u8], p: PortNo, rid: Rid) -> Conversion {
-    if claims_id(s, p, rid) {
+    if claims(s, p, Target::Id(rid)) {
         let port = port_at(s, p);
         let f = port.fpb;
         if enabled(f, Mechanism::Rid) & in_secondary_range(port, rid) {

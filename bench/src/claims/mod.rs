@@ -14,6 +14,7 @@ pub use crate::claims::decoders::memory_space_enabled;
 pub use crate::claims::decoders::prefetchable_claims;
 pub use crate::claims::decoders::upper_of;
 pub use crate::claims::decoders::vector_claims;
+use crate::chassis::Decoders;
 use crate::ids::PortNo;
 use crate::ids::Rid;
 use crate::ids::Target;
@@ -21,32 +22,46 @@ use crate::picture::vector;
 use crate::registers::port_at;
 use crate::registers::Mechanism;
 
-// Whether port p claims an ID: by its bus pair, or by its RID vector.
-pub fn claims_id(s: &[u8], p: PortNo, rid: Rid) -> bool {
+// No decoder claims the target.
+const NO_DECODERS: Decoders = Decoders { bus: false, rid: false, mem: false, pref: false, low: false, high: false };
+
+// The decoders of port p that claim an ID: its bus pair, its RID vector.
+fn id_decoders(s: &[u8], p: PortNo, rid: Rid) -> Decoders {
     let port = port_at(s, p);
     let b = port.bridge;
     let f = port.fpb;
-    bus_claims(b, rid) | vector_claims(f, Mechanism::Rid, vector(s, p, Mechanism::Rid), rid.0 as u64)
+    let mut by = NO_DECODERS;
+    by.bus = bus_claims(b, rid);
+    by.rid = vector_claims(f, Mechanism::Rid, vector(s, p, Mechanism::Rid), rid.0 as u64);
+    by
 }
 
-// Whether port p claims an address: by one of the memory decoders, with Memory Space Enable set.
-fn claims_address(s: &[u8], p: PortNo, a: u64) -> bool {
+// The decoders of port p that claim an address; without Memory Space Enable none does.
+fn address_decoders(s: &[u8], p: PortNo, a: u64) -> Decoders {
     let port = port_at(s, p);
     let b = port.bridge;
     let f = port.fpb;
-    memory_space_enabled(b)
-        & (memory_claims(b, a)
-            | prefetchable_claims(b, a)
-            | low_claims(f, vector(s, p, Mechanism::Low), a)
-            | high_claims(f, vector(s, p, Mechanism::High), a))
+    let mut by = NO_DECODERS;
+    if memory_space_enabled(b) {
+        by.mem = memory_claims(b, a);
+        by.pref = prefetchable_claims(b, a);
+        by.low = low_claims(f, vector(s, p, Mechanism::Low), a);
+        by.high = high_claims(f, vector(s, p, Mechanism::High), a);
+    }
+    by
+}
+
+// The decoders of port p that claim the target.
+pub fn decoders_of(s: &[u8], p: PortNo, t: Target) -> Decoders {
+    match t {
+        Target::Id(rid) => id_decoders(s, p, rid),
+        Target::Addr(a) => address_decoders(s, p, a),
+    }
 }
 
 // Whether at least one decoder of port p claims the target.
 pub fn claims(s: &[u8], p: PortNo, t: Target) -> bool {
-    match t {
-        Target::Id(rid) => claims_id(s, p, rid),
-        Target::Addr(a) => claims_address(s, p, a),
-    }
+    decoders_of(s, p, t).at_least_one()
 }
 
 // The ID of port p itself.

@@ -6,6 +6,7 @@ mod refusals;
 mod walking;
 
 use crate::chassis::Conversion;
+use crate::chassis::Decoders;
 use crate::chassis::End;
 use crate::chassis::Verdict;
 pub use crate::judge::checking::check;
@@ -15,11 +16,11 @@ pub use crate::judge::walking::walk;
 use crate::paths::Path;
 use crate::picture::Refusal;
 
-// Whether a port claims a target, or why that is not answered.
+// The decoders of a port that claim a target, or why that is not answered.
 #[derive(Clone, Copy)]
 pub enum ClaimAnswer {
     Refused(Refusal),
-    Claimed(bool),
+    Claimed(Decoders),
 }
 
 // What a port makes of a configuration request, or why that is not answered.
