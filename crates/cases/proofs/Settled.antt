@@ -21,12 +21,13 @@ use Rattle.picture.specs.Layout.{runningOffset, placeWrong, endWrong, vectorOf}
 use Rattle.picture.specs.Reading.{breaks, misplacedIn, portsReading, reading}
 use Rattle.claims.specs.Decoders.{busClaims, vectorClaims, memoryClaims, lowClaims, idDecoders}
 use Rattle.claims.specs.Conversion.{inSecondaryRange, convertedByBus, converted}
+use Rattle.judge.specs.Asking.{idTooLarge}
 use Rattle.judge.specs.Converting.{convertAskedWrongly, convertOf}
 use Rattle.cases.specs.Chain.{zeros, recordOf, chainWith}
 use Rattle.cases.specs.Settled.{memoryOf, settled, all, c1, c2, c3, c4, c5, c6, c7, c8, c9, c10, c11, c12}
 
 pub all-settled : all settled ≡ true
-unfolding c1 c2 c3 c4 c5 c6 c7 c8 c9 c10 c11 c12 zeros recordOf chainWith entryOf isSet hits settingsOf vectorBytes busClaims vectorClaims memoryClaims lowClaims idDecoders atLeastOne inSecondaryRange convertedByBus converted functionNumber convertAskedWrongly convertOf reading portsReading misplacedIn breaks runningOffset placeWrong endWrong vectorOf headerOf lengthWrong editionWrong countWrong totalWrong offsetWrong sizeReserved granularityAllowed mechanismWrong memoryBitsWrong settingsWrong withAri startBroken startWrong bridgeAt fpbAt portAt recordAt anyBelow upstreamBroken downstreamBroken treeBroken oneAbove above chainTooLong firstOf firstIn u16At u32At
+unfolding c1 c2 c3 c4 c5 c6 c7 c8 c9 c10 c11 c12 zeros recordOf chainWith entryOf isSet hits settingsOf vectorBytes busClaims vectorClaims memoryClaims lowClaims idDecoders atLeastOne inSecondaryRange convertedByBus converted functionNumber idTooLarge convertAskedWrongly convertOf reading portsReading misplacedIn breaks runningOffset placeWrong endWrong vectorOf headerOf lengthWrong editionWrong countWrong totalWrong offsetWrong sizeReserved granularityAllowed mechanismWrong memoryBitsWrong settingsWrong withAri startBroken startWrong bridgeAt fpbAt portAt recordAt anyBelow upstreamBroken downstreamBroken treeBroken oneAbove above chainTooLong firstOf firstIn u16At u32At
 all-settled = refl
 
 -- C6 and C8 say "never" and "nothing": of any registers and any vector, and at every address

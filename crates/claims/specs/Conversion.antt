@@ -30,7 +30,9 @@ convertedByBus p rid =
 -- claimed""
 unfoldable pub converted : Port → (Mechanism → List ℕ) → ℕ → Conversion
 converted p vector rid =
-    cond (claimsTarget p vector (Id (record { 0 = rid }))) (cond (enabledIn (p .fpb) Rid && inSecondaryRange p rid) Type0 (convertedByBus p rid)) NotClaimed
+    cond (claimsTarget p vector (Id (record { 0 = rid })))
+    (cond (enabledIn (p .fpb) Rid && inSecondaryRange p rid) Type0 (convertedByBus p rid))
+    NotClaimed
 
 -- an address is no configuration request's target
 abbrev pub convertedTarget : Port → (Mechanism → List ℕ) → Target → Conversion

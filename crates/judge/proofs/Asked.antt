@@ -2,6 +2,7 @@
 use Prim.Native.Nat.{ℕ, _<_, _^_}
 use mathlib.Core.Bool.{Bool, false, _||_}
 use mathlib.Core.Path.{_≡_}
+use native.Mathlib.Omega.{arith}
 use lib.Dec.{leb, ltb}
 use borrow.Author.Tests.{leb-false, ne-eqb}
 use Rattle.chassis.proofs.Bools.{or-false-parts}
@@ -29,5 +30,5 @@ module _ (count port kind target : ℕ) (right : claimAskedWrongly count port ki
 pub convert-fits : (count port target : ℕ) → convertAskedWrongly count port target ≡ false → (port < count) × (target < 2 ^ 16)
 unfolding convertAskedWrongly
 convert-fits count port target right =
-    let parts = or-false-parts (leb count port) (leb (2 ^ 16) target) right in
-    (leb-false count port (parts .0), leb-false (2 ^ 16) target (parts .1))
+    let parts = or-false-parts (leb count port) (idTooLarge 0 target) right in
+    (leb-false count port (parts .0), id-small 0 target (λ (e : 0 ≡ 1). omega (arith, e)) (parts .1))

@@ -14,7 +14,7 @@ use Rattle.judge.specs.declared.ClaimAnswer.the-variants.{Refused, Claim
 use Rattle.judge.specs.Asking.{targetAsked, idTooLarge}
 use Rattle.judge.specs.Refusals.{number16}
 
--- 16: a port beyond the count, a kind over 1, an ID over FFFFh
+-- 16: "a port beyond the count"; by docs/DECISIONS.md also a kind over 1 and an ID over FFFFh
 unfoldable pub claimAskedWrongly : ℕ → ℕ → ℕ → ℕ → Bool
 claimAskedWrongly count port kind target = leb count port || ltb 1 kind || idTooLarge kind target
 

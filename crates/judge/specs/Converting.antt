@@ -1,6 +1,6 @@
 -- The conversion call: numbers 1 to 10, then 16, then 01, "A port about to be crossed decides". The paper's words for what it
 -- decides are the names of Conversion's cases: not claimed, Type 0, Type 1 passes, Unsupported Request.
-use Prim.Native.Nat.{ℕ, _^_}
+use Prim.Native.Nat.{ℕ}
 use mathlib.Core.Bool.{Bool, cond, _||_}
 use mathlib.Core.List.{List}
 use lib.Dec.{leb}
@@ -11,11 +11,12 @@ use Rattle.picture.specs.Reading.{reading}
 use Rattle.claims.specs.Claims.{chassisOf}
 use Rattle.judge.specs.declared.ConvertAnswer.{ConvertAnswer}
 use Rattle.judge.specs.declared.ConvertAnswer.the-variants.{Refused, Converted}
+use Rattle.judge.specs.Asking.{idTooLarge}
 use Rattle.judge.specs.Refusals.{number16}
 
--- 16: a port beyond the count, an ID over FFFFh
+-- 16: "a port beyond the count"; by docs/DECISIONS.md also an ID over FFFFh, kind 0 being an ID
 unfoldable pub convertAskedWrongly : ℕ → ℕ → ℕ → Bool
-convertAskedWrongly count port target = leb count port || leb (2 ^ 16) target
+convertAskedWrongly count port target = leb count port || idTooLarge 0 target
 
 unfoldable pub convertOf : Reading → List ℕ → ℕ → ℕ → ConvertAnswer
 convertOf (NotRead r) s port target = Refused r

@@ -1,5 +1,6 @@
 // What a port of a picture makes of a configuration request for an ID.
 use crate::ConvertAnswer;
+use crate::asking::id_too_large;
 use crate::refusals::number_16;
 use crate::refusals::refusal_of;
 use ids::PortNo;
@@ -9,11 +10,11 @@ use picture::Reading;
 ghost use mathlib.Core.Path.{_≡_};
 ghost use Rattle.judge.specs.Converting.{convertAskedWrongly, convertAnswer};
 
-// Number 16.
+// Number 16; kind 0 is an ID.
 fn convert_asked_wrongly(count: u32, port: u32, target: u64) -> bool
     ensures { λ r. ⌜ r ≡ convertAskedWrongly count port target ⌝ }
 {
-    (count <= port) | (65536 <= target)
+    (count <= port) | id_too_large(0, target)
 }
 
 // Numbers 1 to 10, then 16, else what the port makes of the request.
