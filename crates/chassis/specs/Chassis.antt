@@ -42,7 +42,7 @@ holds c t p = isOwn c t p || c .claims p t
 
 -- 02, Item 3: "Everything that asked yes or no now means "at least one""
 unfoldable pub atLeastOne : Decoders → Bool
-atLeastOne d = d .bus || d .rid || d .mem || d .pref || d .low || d .high
+atLeastOne d = d .bus || d .rid || d .mem || d .pref || d .low || d .high || d .vga
 
 -- "name all decoders that claim the target"; "`own` is no decoder and no claim; it only says why the port holds the ID"
 abbrev pub holdOf : Chassis → Target → ℕ → Hold

@@ -9,7 +9,7 @@ impl Decoders {
     pub fn at_least_one(self) -> bool
         ensures { λ r. ⌜ r ≡ atLeastOne self ⌝ }
     {
-        self.bus | self.rid | self.mem | self.pref | self.low | self.high
+        self.bus | self.rid | self.mem | self.pref | self.low | self.high | self.vga
     }
 }
 

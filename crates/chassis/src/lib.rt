@@ -36,6 +36,7 @@ pub struct Decoders {
     pub pref: bool,
     pub low: bool,
     pub high: bool,
+    pub vga: bool,
 }
 
 // What a port has to do with a target: it is the port's own ID, which is no claim, and these decoders claim it.

@@ -1,3 +1,5 @@
 pub mod Joined
 pub mod Laws
 pub mod Over
+pub mod FirstMib
+pub mod OfVideo

@@ -57,14 +57,22 @@ lowClaims f v a = ltb a (2 ^ 32) && vectorClaims f Low v a
 unfoldable pub highClaims : Fpb → List ℕ → ℕ → Bool
 highClaims f v a = leb (2 ^ 32) a && vectorClaims f High v a
 
+-- vga, 02, Item 4: "With VGA Enable (bit 3 of Bridge Control) .. set, a port also claims A0000h to BFFFFh"
+unfoldable pub vgaEnabled : Bridge → Bool
+vgaEnabled b = eqb (field (b .«bridge_control») 3 1) 1
+
+unfoldable pub videoClaims : Bridge → ℕ → Bool
+videoClaims b a = vgaEnabled b && between 0xA0000 0xBFFFF a
+
 -- "Command (2); bit 1 is Memory Space Enable"
 unfoldable pub memorySpaceEnabled : Bridge → Bool
 memorySpaceEnabled b = eqb (field (b .command) 1 1) 1
 
 abbrev pub noDecoders : Decoders
-noDecoders = record { bus = false; rid = false; mem = false; pref = false; low = false; high = false }
+noDecoders = record { bus = false; rid = false; mem = false; pref = false; low = false; high = false; vga = false }
 
--- "These are all the decoders." 02, Item 3: "The claim answer must name all decoders that claim the target"
+-- 02, Item 4, of 01's "These are all the decoders.": "It does not: document 001 lists more", of which vga joins and Enhanced Allocation stays
+-- out. Item 3: "The claim answer must name all decoders that claim the target"
 unfoldable pub idDecoders : Port → (Mechanism → List ℕ) → ℕ → Decoders
 idDecoders p vector rid =
     record {
@@ -74,6 +82,7 @@ idDecoders p vector rid =
       pref = false;
       low = false;
       high = false;
+      vga = false;
     }
 
 -- addresses "only with Memory Space Enable set"
@@ -87,6 +96,7 @@ addressDecoders p vector a =
       pref = prefetchableClaims (p .bridge) a;
       low = lowClaims (p .fpb) (vector Low) a;
       high = highClaims (p .fpb) (vector High) a;
+      vga = videoClaims (p .bridge) a;
     })
     noDecoders
 

@@ -7,7 +7,12 @@ use registers::enabled;
 use registers::settings;
 ghost use mathlib.Core.Path.{_≡_};
 ghost use Prim.Native.Nat.{_*_, _-_, _^_, _≤_};
-ghost use Rattle.claims.specs.Decoders.{busClaims, vectorClaims, baseOf, upperOf, memoryClaims, prefetchableClaims, lowClaims, highClaims, memorySpaceEnabled};
+ghost use Rattle.claims.specs.Decoders.{busClaims, vectorClaims, baseOf, upperOf, memoryClaims, prefetchableClaims, lowClaims, highClaims, vgaEnabled, videoClaims, memorySpaceEnabled};
+
+// The video range.
+pub const VIDEO_FIRST: u64 = 0xA0000;
+
+pub const VIDEO_LAST: u64 = 0xBFFFF;
 
 // The bus pair; 0, 0 claims nothing.
 pub fn bus_claims(b: Bridge, rid: Rid) -> bool
@@ -72,6 +77,20 @@ pub fn high_claims(f: Fpb, v: &[u8], a: u64) -> bool
     ensures { λ r. ⌜ r ≡ highClaims f (now (v .entry)) a ⌝ }
 {
     (4294967296 <= a) & vector_claims(f, Mechanism::High, v, a)
+}
+
+// VGA Enable, bit 3 of Bridge Control.
+pub fn vga_enabled(b: Bridge) -> bool
+    ensures { λ r. ⌜ r ≡ vgaEnabled b ⌝ }
+{
+    (b.bridge_control >> 3) % 2 == 1
+}
+
+// The video range, with VGA Enable.
+pub fn video_claims(b: Bridge, a: u64) -> bool
+    ensures { λ r. ⌜ r ≡ videoClaims b a ⌝ }
+{
+    vga_enabled(b) & ((VIDEO_FIRST <= a) & (a <= VIDEO_LAST))
 }
 
 // Without it no memory decoder of the port claims anything.

@@ -7,6 +7,8 @@ use chassis::Hold;
 pub use conversions::conversion;
 pub use conversions::converted_by_bus;
 pub use conversions::in_secondary_range;
+pub use decoders::VIDEO_FIRST;
+pub use decoders::VIDEO_LAST;
 pub use decoders::base_of;
 pub use decoders::bus_claims;
 pub use decoders::high_claims;
@@ -16,16 +18,20 @@ pub use decoders::memory_space_enabled;
 pub use decoders::prefetchable_claims;
 pub use decoders::upper_of;
 pub use decoders::vector_claims;
+pub use decoders::vga_enabled;
+pub use decoders::video_claims;
 use ids::PortNo;
 use ids::Rid;
 use ids::Target;
 use patches::vector;
 use registers::Mechanism;
+use registers::enables_of;
 use registers::own_id_at;
 use registers::port_at;
 ghost use Prim.Native.Nat.{ℕ};
 ghost use mathlib.Core.List.{List};
 ghost use mathlib.Core.Path.{_≡_};
+ghost use Rattle.ids.specs.declared.Target.the-variants.{Addr};
 ghost use Rattle.chassis.specs.Chassis.{isOwn, holds, holdOf};
 ghost use Rattle.registers.specs.Record.{portAt};
 ghost use Rattle.registers.specs.Rules.{withAri};
@@ -44,6 +50,7 @@ fn no_decoders() -> Decoders
         pref: false,
         low: false,
         high: false,
+        vga: false,
     }
 }
 
@@ -74,6 +81,7 @@ fn address_decoders<'a>(s: &'a [u8], patch: &'a [u8], p: PortNo, a: u64) -> Deco
         by.pref = prefetchable_claims(b, a);
         by.low = low_claims(f, vector(s, patch, p, Mechanism::Low), a);
         by.high = high_claims(f, vector(s, patch, p, Mechanism::High), a);
+        by.vga = video_claims(b, a);
     }
     by
 }
@@ -121,6 +129,14 @@ pub fn hold_of<'a>(s: &'a [u8], patch: &'a [u8], p: PortNo, t: Target) -> Hold
         own: is_own(s, p, t),
         decoders: decoders_of(s, patch, p, t),
     }
+}
+
+// Whether port p claims the video range, whatever the patch; two reads of its record.
+pub fn claims_video(s: &[u8], p: PortNo) -> bool
+    ensures { λ r. ⌜ ((patch : List ℕ) → r ≡ chassisOver (now (s .entry)) patch .decoders (p .0) (Addr 0xA0000) .vga) ⌝ }
+{
+    let b = enables_of(s, p);
+    memory_space_enabled(b) & vga_enabled(b)
 }
 
 // Whether port p forwards with ARI.

@@ -12,8 +12,19 @@ use Rattle.ids.specs.Ids.{portNo}
 use Rattle.chassis.specs.Chassis.{Chassis}
 use Rattle.chassis.specs.Check.{clash, clashesWith, faulty}
 use Rattle.chassis.specs.declared.Fault.the-variants.{Shared}
-use Rattle.chassis.proofs.Ports.{SomeBelow, anyBelow-true, anyBelow-false}
+use Rattle.chassis.proofs.Ports.{SomeBelow, anyBelow-true, anyBelow-at, anyBelow-false}
 use Rattle.culprits.specs.Culprits.{pairAt}
+
+module _ (c : Chassis) (t : Target) (p : ℕ) where
+  -- port p was tried with all
+  pub tried : {q n : ℕ} → NoneIn (clash c t p) 0 q → n ≤ q → n ≡ c .tree .count → clashesWith c t p ≡ false
+  unfolding clashesWith
+  tried none l e = anyBelow-false (clash c t p) (c .tree .count) .1 (λ i k. none .none i zero-le (omega arith))
+
+  -- and clashes with q
+  pub clashing-with : {q : ℕ} → q < c .tree .count → clash c t p q ≡ true → clashesWith c t p ≡ true
+  unfolding clashesWith
+  clashing-with {q} below clashing = anyBelow-at (clash c t p) (c .tree .count) q below clashing
 
 module _ (c : Chassis) (t : Target) {p : ℕ} (passed : NoneIn (clashesWith c t) 0 p) where
   -- a shared target has a pair, so its first port is yet to come
@@ -29,21 +40,15 @@ module _ (c : Chassis) (t : Target) {p : ℕ} (passed : NoneIn (clashesWith c t)
           after (no l) = omega (arith, some .below)
 
   module _ {q : ℕ} (none : NoneIn (clash c t p) 0 q) where
-    -- port p was tried with all
-    pub port-passed : {n : ℕ} → n ≤ q → n ≡ c .tree .count → clashesWith c t p ≡ false
-    unfolding clashesWith
-    port-passed l e = anyBelow-false (clash c t p) (c .tree .count) .1 (λ i k. none .none i zero-le (omega arith))
-
-    -- and clashes with q
+    -- port p was tried with the ports below q, and clashes with q
     module _ (below : q < c .tree .count) (clashing : clash c t p q ≡ true) where
       first-is : p < c .tree .count → At p ≡ firstIn (clashesWith c t) 0 (c .tree .count)
-      unfolding clashesWith
       first-is l =
           at-is
           (record {
             from = zero-le;
             below = l;
-            holds = anyBelow-true (clash c t p) (c .tree .count) .1 (record { number = q; below = below; passes = clashing });
+            holds = clashing-with c t p below clashing;
             first = passed;
           })
 

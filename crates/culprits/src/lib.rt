@@ -1,6 +1,7 @@
 // Which ports the check names: the first pair at a shared target, and the lowest port that strays or whose own ID is lost.
 mod pairs;
 mod ports;
+mod video;
 
 pub use pairs::Pair;
 pub use pairs::first_pair;

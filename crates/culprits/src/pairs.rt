@@ -8,7 +8,7 @@ use registers::parent_at;
 ghost use mathlib.Core.Bool.{true};
 ghost use mathlib.Core.Path.{_≡_};
 ghost use Rattle.chassis.specs.declared.Fault.the-variants.{Shared};
-ghost use Rattle.chassis.specs.Check.{clash, faulty};
+ghost use Rattle.chassis.specs.Check.{clash, clashesWith, faulty};
 ghost use Rattle.trees.specs.Trees.{countOf};
 ghost use Rattle.claims.specs.Over.{chassisOver};
 ghost use Rattle.culprits.specs.Culprits.{pairAt};
@@ -27,6 +27,21 @@ fn clashes<'a>(s: &'a [u8], patch: &'a [u8], t: Target, p: PortNo, q: PortNo) ->
     }
     if parent_at(s, p).0 == parent_at(s, q).0 {
         return holds(s, patch, p, t) & holds(s, patch, q, t);
+    }
+    false
+}
+
+// Whether port p shares the target with one of n ports, or claims it as its own ID.
+pub fn clashes_with<'a>(s: &'a [u8], patch: &'a [u8], n: u8, t: Target, p: PortNo) -> bool
+    requires { ⌜ n ≡ countOf (now s) ⌝ }
+    ensures { λ r. ⌜ r ≡ clashesWith (chassisOver (now (s .entry)) (now (patch .entry))) t (p .0) ⌝ }
+{
+    let mut q: u8 = 0;
+    while q < n {
+        if clashes(s, patch, t, p, PortNo(q)) {
+            return true;
+        }
+        q += 1;
     }
     false
 }

@@ -65,7 +65,7 @@ byBus p =
     record {
       port = portNo p;
       own = false;
-      decoders = record { bus = true; rid = false; mem = false; pref = false; low = false; high = false };
+      decoders = record { bus = true; rid = false; mem = false; pref = false; low = false; high = false; vga = false };
     }
 
 by-bus : (holdOf c (id 0x0300) 2 ≡ byBus 2) × (holdOf c (id 0x0300) 3 ≡ byBus 3)

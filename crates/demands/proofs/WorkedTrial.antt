@@ -142,7 +142,7 @@ ownByRid =
     record {
       port = portNo 0;
       own = true;
-      decoders = record { bus = false; rid = true; mem = false; pref = false; low = false; high = false };
+      decoders = record { bus = false; rid = true; mem = false; pref = false; low = false; high = false; vga = false };
     }
 
 -- no ID below its own is at fault, and there is only this port

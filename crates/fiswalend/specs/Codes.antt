@@ -10,12 +10,13 @@ use Rattle.judge.specs.declared.ClaimAnswer.the-variants.{Refused, Claimed}
 use Rattle.judge.specs.declared.ConvertAnswer.{ConvertAnswer}
 use Rattle.judge.specs.declared.ConvertAnswer.the-variants.{Refused as NotConverted, Converted}
 
--- the decoders by their bits, from bit 0 on: bus, rid, mem, pref, low, high
+-- the decoders by their bits, from bit 0 on: bus, rid, mem, pref, low, high, vga
 abbrev pub bitOf : Bool → ℕ → ℕ
 bitOf claims weight = cond claims weight 0
 
 unfoldable pub decoderBits : Decoders → ℕ
-decoderBits d = bitOf (d .bus) 1 + bitOf (d .rid) 2 + bitOf (d .mem) 4 + bitOf (d .pref) 8 + bitOf (d .low) 16 + bitOf (d .high) 32
+decoderBits d =
+    bitOf (d .bus) 1 + bitOf (d .rid) 2 + bitOf (d .mem) 4 + bitOf (d .pref) 8 + bitOf (d .low) 16 + bitOf (d .high) 32 + bitOf (d .vga) 64
 
 abbrev pub claimWrites : ClaimAnswer → ℕ → ℕ
 claimWrites (Refused r) before = before

@@ -26,6 +26,7 @@ fn decoder_bits(d: Decoders) -> u32
         + bit_of(d.pref, 8)
         + bit_of(d.low, 16)
         + bit_of(d.high, 32)
+        + bit_of(d.vga, 64)
 }
 
 // The number, and where it is 0 the decoders of the port that claim the target.

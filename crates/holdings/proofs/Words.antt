@@ -1,4 +1,5 @@
--- The search's words are the paper's: what a reach of a port reaches is what is its own or what it claims. Assumes nothing.
+-- The search's words are the paper's: what a reach of a port reaches is what is its own or what it claims beside the video range.
+-- Assumes nothing.
 use Prim.Native.Nat.{ℕ, suc, _+_, _-_, _*_, _/_, _^_, _≤_, _<_}
 use mathlib.Core.Bool.{Bool, true, false, _&&_, _||_, and-assoc, and-false, and-true}
 use mathlib.Core.List.{List}
@@ -11,7 +12,7 @@ use borrow.Author.Tests.{le-leb, lt-leb, eq-eqb, ne-eqb}
 use Rattle.ids.specs.declared.Space.{Space}
 use Rattle.ids.specs.declared.Space.the-variants.{Ids, Addresses}
 use Rattle.ids.specs.Ids.{busOf}
-use Rattle.chassis.specs.Chassis.{targetIn, spaceSize, isOwn, atLeastOne}
+use Rattle.chassis.specs.Chassis.{targetIn, spaceSize, isOwn}
 use Rattle.vectors.specs.Vectors.{hits}
 use Rattle.registers.specs.declared.Bridge.{Bridge}
 use Rattle.registers.specs.declared.Fpb.{Fpb}
@@ -22,14 +23,16 @@ use Rattle.registers.specs.Record.{portAt}
 use Rattle.registers.specs.Vectors.{enabledIn, settingsOf}
 use Rattle.claims.specs.Decoders.{between, baseOf, busClaims, vectorClaims, memoryClaims, prefetchableClaims, lowClaims, highClaims, memorySpaceEnabled, idDecoders, addressDecoders}
 use Rattle.claims.specs.Claims.{chassisWith}
-use Rattle.claims.proofs.Joined.{claims-id, claims-address}
+use Rattle.claims.specs.Beside.{besideVideo, withoutVideo}
+use Rattle.claims.proofs.Joined.{beside-id, beside-address}
+use Rattle.claims.proofs.Laws.{same-leb}
 use Rattle.spans.specs.declared.Reach.{Reach}
 use Rattle.spans.specs.Ranges.{inRange}
 use Rattle.spans.specs.Grids.{hitIn}
 use Rattle.spans.specs.Reaches.{onRanges, onGrids, reaches}
 use Rattle.spans.proofs.OfRanges.{above}
 use Rattle.holdings.specs.Holdings.{rangeIf, gridIf, busRange, memoryRange, prefetchableRange, idReach, addressReach, reachOf, oneOf, endsIn}
-use Rattle.holdings.proofs.Bools.{and-swap, either-way, four-ways, same-leb}
+use Rattle.holdings.proofs.Bools.{and-swap, either-way, four-ways}
 
 -- a range or a grid that is off reaches nothing
 range-in : (on : Bool) (lo hi t : ℕ) → inRange (rangeIf on lo hi) t ≡ (on && between lo hi t)
@@ -78,11 +81,11 @@ bus-in on b t small = rw (range-in _ _ _ t, bus-between _ _ t small, and-assoc)
 
 module _ (p : Port) (vector : Mechanism → List ℕ) (own claims : Bool) where
   id-words : (t : ℕ) → t < 2 ^ 16
-      → reaches (idReach p own claims) (vector Rid) (vector High) t ≡ (own && eqb (p .«own_id» .0) t || claims && atLeastOne (idDecoders p vector t))
+      → reaches (idReach p own claims) (vector Rid) (vector High) t ≡ (own && eqb (p .«own_id» .0) t || claims && besideVideo (idDecoders p vector t))
   unfolding reaches onRanges onGrids idReach
   id-words t small =
       rw (
-        claims-id p vector t,
+        beside-id p vector t,
         bus-in claims (p .bridge) t small,
         range-in own _ _ t,
         between-one (p .«own_id» .0) t,
@@ -94,12 +97,12 @@ module _ (p : Port) (vector : Mechanism → List ℕ) (own claims : Bool) where
       (either-way claims (own && eqb (p .«own_id» .0) t) (busClaims (p .bridge) t) (vectorClaims (p .fpb) Rid (vector Rid) t))
 
   address-words : (t : ℕ) → t < 2 ^ 64
-      → reaches (addressReach p (claims && memorySpaceEnabled (p .bridge))) (vector Low) (vector High) t ≡ (claims && atLeastOne (addressDecoders p vector t))
+      → reaches (addressReach p (claims && memorySpaceEnabled (p .bridge))) (vector Low) (vector High) t ≡ (claims && besideVideo (addressDecoders p vector t))
   unfolding reaches onRanges onGrids addressReach memoryRange prefetchableRange memoryClaims prefetchableClaims lowClaims highClaims
   address-words t small =
       let on = claims && memorySpaceEnabled (p .bridge) in
       rw (
-        claims-address p vector t,
+        beside-address p vector t,
         range-in on (baseOf (p .bridge .«memory_base»)) _ t,
         range-in on _ _ t,
         grid-in on (p .fpb) Low (vector Low) 0 (2 ^ 32 - 1) t,
@@ -113,7 +116,7 @@ module _ (p : Port) (vector : Mechanism → List ℕ) (own claims : Bool) where
 -- for a picture's port with these vectors, in either space
 pub reach-words : (s : List ℕ) (vector : ℕ → Mechanism → List ℕ) (n : ℕ) (space : Space) (own claims : Bool) (t : ℕ) → t < spaceSize space
     → reaches (reachOf (portAt s n) space own claims) (vector n (oneOf space)) (vector n High) t
-    ≡ (own && isOwn (chassisWith s vector) (targetIn space t) n || claims && chassisWith s vector .claims n (targetIn space t))
+    ≡ (own && isOwn (withoutVideo (chassisWith s vector)) (targetIn space t) n || claims && withoutVideo (chassisWith s vector) .claims n (targetIn space t))
 reach-words s vector n Ids own claims t l = id-words (portAt s n) (vector n) own claims t l
 reach-words s vector n Addresses own claims t l = rw and-false (address-words (portAt s n) (vector n) own claims t l)
 

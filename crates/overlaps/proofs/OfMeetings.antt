@@ -14,6 +14,7 @@ use Rattle.registers.specs.declared.Mechanism.{Mechanism}
 use Rattle.registers.specs.declared.Mechanism.the-variants.{High}
 use Rattle.registers.specs.Record.{portAt}
 use Rattle.claims.specs.Claims.{chassisWith}
+use Rattle.claims.specs.Beside.{withoutVideo}
 use Rattle.spans.specs.declared.Reach.{Reach}
 use Rattle.spans.specs.Reaches.{reaches}
 use Rattle.search.specs.Search.{reachesIs, meets}
@@ -37,13 +38,13 @@ module _ (s : List ℕ) (vector : ℕ → Mechanism → List ℕ) (space : Space
   abbrev other : Holding → List ℕ
   other h = vector (h .port .0) High
 
-  has-words : (h : Holding) (t : ℕ) → t < spaceSize space → reaches (reachFor s space h) (one h) (other h) t ≡ testIn (has (chassisWith s vector) h) space t
+  has-words : (h : Holding) (t : ℕ) → t < spaceSize space → reaches (reachFor s space h) (one h) (other h) t ≡ testIn (has (withoutVideo (chassisWith s vector)) h) space t
   unfolding has testIn
   has-words h t l = reach-words s vector (h .port .0) space (h .own) (h .claims) t l
 
   module _ (a b : Holding) (want : Bool) where
     pub meets-first : {d e : Reach} → d ≡ reachFor s space a → e ≡ reachFor s space b → endsIn space d
-        → firstIn (meets d (one a) (other a) e (one b) (other b) want) 0 (2 ^ 64) ≡ leastTarget (meeting (chassisWith s vector) a b want) space
+        → firstIn (meets d (one a) (other a) e (one b) (other b) want) 0 (2 ^ 64) ≡ leastTarget (meeting (withoutVideo (chassisWith s vector)) a b want) space
     unfolding meets reachesIs meeting testIn
     meets-first {d} {e} x y ends =
         sym (first-below 0 (space-size space) (record { none = λ t l h. rw (none-past space d _ _ ends t l) }))

@@ -1,11 +1,14 @@
 -- What two ports have to do with a target, as tests of the target that a search for the least one runs over.
 use Prim.Native.Nat.{ℕ}
-use mathlib.Core.Bool.{Bool, _&&_, _||_, Bool·beq}
+use mathlib.Core.Bool.{Bool, cond, _&&_, _||_, Bool·beq}
 use Rattle.ids.specs.declared.Target.{Target}
+use Rattle.least.specs.declared.Found.{Found}
+use Rattle.least.specs.declared.Found.the-variants.{At, Nothing}
 use Rattle.chassis.specs.Chassis.{Chassis, isOwn}
 use Rattle.chassis.specs.declared.Fault.{Fault}
 use Rattle.chassis.specs.Check.{clash, atFault}
 use Rattle.chassis.specs.Tree.{anyBelow}
+use Rattle.culprits.specs.Culprits.{videoAtFault}
 use Rattle.overlaps.specs.declared.meetings.Holding.{Holding}
 
 -- the port's own ID, where that is looked at, or claimed by it, where that is
@@ -22,3 +25,7 @@ clashOf c p q t = clash c t p q
 -- one of the first k ports is at fault
 unfoldable pub faultyTo : Fault → Chassis → ℕ → Target → Bool
 faultyTo fault c k t = anyBelow (atFault fault c t) k
+
+-- the first address of the video range, where a port that claims it is at fault there
+unfoldable pub leastOfVideo : Fault → Chassis → Found
+leastOfVideo fault c = cond (anyBelow (videoAtFault fault c) (c .tree .count)) (At 0xA0000) Nothing

@@ -1,6 +1,7 @@
 // Numbers 11 to 14: the least target with a fault, told which fault and which space.
 use crate::pairs::with_pairs;
 use crate::strays::with_child;
+use crate::video::least_of_video;
 use chassis::Fault;
 use ids::PortNo;
 use ids::Space;
@@ -10,6 +11,7 @@ ghost use Prim.Native.Nat.{_+_, _<_};
 ghost use Rattle.chassis.specs.Check.{faulty, leastTarget};
 ghost use Rattle.trees.specs.Trees.{countOf};
 ghost use Rattle.claims.specs.Over.{chassisOver};
+ghost use Rattle.claims.specs.Beside.{chassisBeside};
 ghost use Rattle.overlaps.specs.Overlaps.{faultyTo};
 
 // The best so far, after port p was tried.
@@ -24,8 +26,8 @@ fn with_port<'a>(
 ) -> Found
     requires { ⌜ n ≡ countOf (now s) ⌝ }
     requires { ⌜ p < n ⌝ }
-    requires { ⌜ best ≡ leastTarget (faultyTo fault (chassisOver (now s) (now patch)) p) space ⌝ }
-    ensures { λ r. ⌜ r ≡ leastTarget (faultyTo fault (chassisOver (now (s .entry)) (now (patch .entry))) (p + 1)) space ⌝ }
+    requires { ⌜ best ≡ leastTarget (faultyTo fault (chassisBeside (now s) (now patch)) p) space ⌝ }
+    ensures { λ r. ⌜ r ≡ leastTarget (faultyTo fault (chassisBeside (now (s .entry)) (now (patch .entry))) (p + 1)) space ⌝ }
 {
     match fault {
         Fault::Shared => with_pairs(s, patch, n, space, p, best),
@@ -33,10 +35,10 @@ fn with_port<'a>(
     }
 }
 
-// The least target of a space at which one of n ports is at fault.
-pub fn least_fault<'a>(s: &'a [u8], patch: &'a [u8], n: u8, fault: Fault, space: Space) -> Found
+// The least target of a space at which one of n ports is at fault beside the video range.
+fn least_beside<'a>(s: &'a [u8], patch: &'a [u8], n: u8, fault: Fault, space: Space) -> Found
     requires { ⌜ n ≡ countOf (now s) ⌝ }
-    ensures { λ r. ⌜ r ≡ leastTarget (faulty fault (chassisOver (now (s .entry)) (now (patch .entry)))) space ⌝ }
+    ensures { λ r. ⌜ r ≡ leastTarget (faulty fault (chassisBeside (now (s .entry)) (now (patch .entry)))) space ⌝ }
 {
     let mut best = Found::Nothing;
     let mut p: u8 = 0;
@@ -45,4 +47,16 @@ pub fn least_fault<'a>(s: &'a [u8], patch: &'a [u8], n: u8, fault: Fault, space:
         p += 1;
     }
     best
+}
+
+// The least target of a space at which one of n ports is at fault.
+pub fn least_fault<'a>(s: &'a [u8], patch: &'a [u8], n: u8, fault: Fault, space: Space) -> Found
+    requires { ⌜ n ≡ countOf (now s) ⌝ }
+    ensures { λ r. ⌜ r ≡ leastTarget (faulty fault (chassisOver (now (s .entry)) (now (patch .entry)))) space ⌝ }
+{
+    let beside = least_beside(s, patch, n, fault, space);
+    match space {
+        Space::Ids => beside,
+        Space::Addresses => least::sooner(least_of_video(s, patch, n, fault), beside),
+    }
 }

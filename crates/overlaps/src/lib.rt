@@ -4,5 +4,6 @@ mod faults;
 mod meetings;
 mod pairs;
 mod strays;
+mod video;
 
 pub use faults::least_fault;

@@ -9,7 +9,7 @@ use registers::Mechanism;
 ghost use mathlib.Core.Path.{_≡_};
 ghost use Rattle.least.specs.Least.{soonest};
 ghost use Rattle.chassis.specs.Check.{leastTarget};
-ghost use Rattle.claims.specs.Over.{chassisOver};
+ghost use Rattle.claims.specs.Beside.{chassisBeside};
 ghost use Rattle.overlaps.specs.Overlaps.{meeting};
 
 // What of a port is looked at: its own ID, its claims, or both.
@@ -29,7 +29,7 @@ pub fn least_meeting<'a>(
     want: bool,
     best: Found,
 ) -> Found
-    ensures { λ r. ⌜ r ≡ soonest best (leastTarget (meeting (chassisOver (now (s .entry)) (now (patch .entry))) a b want) space) ⌝ }
+    ensures { λ r. ⌜ r ≡ soonest best (leastTarget (meeting (chassisBeside (now (s .entry)) (now (patch .entry))) a b want) space) ⌝ }
 {
     let m = one_of(space);
     let p = a.port;

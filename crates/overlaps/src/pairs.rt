@@ -11,7 +11,7 @@ ghost use Rattle.least.specs.Least.{soonest};
 ghost use Rattle.chassis.specs.declared.Fault.the-variants.{Shared};
 ghost use Rattle.chassis.specs.Check.{leastTarget};
 ghost use Rattle.trees.specs.Trees.{countOf};
-ghost use Rattle.claims.specs.Over.{chassisOver};
+ghost use Rattle.claims.specs.Beside.{chassisBeside};
 ghost use Rattle.overlaps.specs.Overlaps.{clashOf, faultyTo};
 
 // The best so far, after ports p and q were tried; a port with itself is its own ID against its claims.
@@ -23,7 +23,7 @@ fn with_pair<'a>(
     q: PortNo,
     best: Found,
 ) -> Found
-    ensures { λ r. ⌜ r ≡ soonest best (leastTarget (clashOf (chassisOver (now (s .entry)) (now (patch .entry))) (p .0) (q .0)) space) ⌝ }
+    ensures { λ r. ⌜ r ≡ soonest best (leastTarget (clashOf (chassisBeside (now (s .entry)) (now (patch .entry))) (p .0) (q .0)) space) ⌝ }
 {
     if parent_at(s, p).0 == parent_at(s, q).0 {
         let apart = p.0 != q.0;
@@ -54,8 +54,8 @@ pub fn with_pairs<'a>(
 ) -> Found
     requires { ⌜ n ≡ countOf (now s) ⌝ }
     requires { ⌜ p < n ⌝ }
-    requires { ⌜ best ≡ leastTarget (faultyTo Shared (chassisOver (now s) (now patch)) p) space ⌝ }
-    ensures { λ r. ⌜ r ≡ leastTarget (faultyTo Shared (chassisOver (now (s .entry)) (now (patch .entry))) (p + 1)) space ⌝ }
+    requires { ⌜ best ≡ leastTarget (faultyTo Shared (chassisBeside (now s) (now patch)) p) space ⌝ }
+    ensures { λ r. ⌜ r ≡ leastTarget (faultyTo Shared (chassisBeside (now (s .entry)) (now (patch .entry))) (p + 1)) space ⌝ }
 {
     let mut found = best;
     let mut q: u8 = p;

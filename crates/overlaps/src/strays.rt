@@ -11,13 +11,13 @@ ghost use mathlib.Core.Path.{_≡_};
 ghost use Prim.Native.Nat.{_+_};
 ghost use Rattle.chassis.specs.declared.Fault.the-variants.{Stray};
 ghost use Rattle.chassis.specs.Check.{leastTarget};
-ghost use Rattle.claims.specs.Over.{chassisOver};
+ghost use Rattle.claims.specs.Beside.{chassisBeside};
 ghost use Rattle.overlaps.specs.Overlaps.{faultyTo};
 
 // The best so far, after port p was tried; nothing of a root port strays.
 pub fn with_child<'a>(s: &'a [u8], patch: &'a [u8], space: Space, p: PortNo, best: Found) -> Found
-    requires { ⌜ best ≡ leastTarget (faultyTo Stray (chassisOver (now s) (now patch)) (p .0)) space ⌝ }
-    ensures { λ r. ⌜ r ≡ leastTarget (faultyTo Stray (chassisOver (now (s .entry)) (now (patch .entry))) (p .0 + 1)) space ⌝ }
+    requires { ⌜ best ≡ leastTarget (faultyTo Stray (chassisBeside (now s) (now patch)) (p .0)) space ⌝ }
+    ensures { λ r. ⌜ r ≡ leastTarget (faultyTo Stray (chassisBeside (now (s .entry)) (now (patch .entry))) (p .0 + 1)) space ⌝ }
 {
     if kind_at(s, p) == ROOT_PORT {
         return best;

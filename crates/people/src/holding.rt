@@ -23,7 +23,8 @@ pub fn say_decoders(d: Decoders, said: bool) {
     let mem = say_way(d.mem, rid, b" through its memory window");
     let pref = say_way(d.pref, mem, b" through its prefetchable window");
     let low = say_way(d.low, pref, b" through its MEM Low vector");
-    say_way(d.high, low, b" through its MEM High vector");
+    let high = say_way(d.high, low, b" through its MEM High vector");
+    say_way(d.vga, high, b" through its video range");
 }
 
 // `port 3 (..) as its own ID and through its RID vector`.

@@ -15,6 +15,7 @@ use lent::u8_at;
 use lent::u16_at;
 use lent::u32_at;
 pub use records::HEADER_BYTES;
+pub use records::enables_of;
 pub use records::kind_at;
 pub use records::own_id_at;
 pub use records::parent_at;

@@ -1,4 +1,5 @@
 // Where a port's record starts, and the fields of it that the tree is made of, each by one read.
+use crate::Bridge;
 use crate::Fpb;
 use ids::PortNo;
 use ids::Rid;
@@ -47,6 +48,26 @@ pub fn sizes_of(s: &[u8], p: PortNo) -> Fpb
         mem_low_control: 0,
         mem_high_control_1: 0,
         mem_high_control_2: 0,
+    }
+}
+
+// The Type 1 header registers of port p as far as they enable anything: Command and Bridge Control. The others are left 0.
+pub fn enables_of(s: &[u8], p: PortNo) -> Bridge
+    ensures { λ r. ⌜ r .command ≡ portAt (now (s .entry)) (p .0) .bridge .command ⌝ }
+    ensures { λ r. ⌜ r .«bridge_control» ≡ portAt (now (s .entry)) (p .0) .bridge .«bridge_control» ⌝ }
+{
+    let r = record_at(p.0 as usize);
+    Bridge {
+        command: lent::u16_at(s, r + 4),
+        secondary: 0,
+        subordinate: 0,
+        memory_base: 0,
+        memory_limit: 0,
+        prefetchable_base: 0,
+        prefetchable_limit: 0,
+        prefetchable_base_upper: 0,
+        prefetchable_limit_upper: 0,
+        bridge_control: lent::u16_at(s, r + 26),
     }
 }
 

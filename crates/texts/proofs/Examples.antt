@@ -33,13 +33,13 @@ unfolding ascii decimal digitsUpTo
 numbers = (refl, refl, refl)
 
 byBus : Decoders
-byBus = record { bus = true; rid = false; mem = false; pref = false; low = false; high = false }
+byBus = record { bus = true; rid = false; mem = false; pref = false; low = false; high = false; vga = false }
 
 byRid : Decoders
-byRid = record { bus = false; rid = true; mem = false; pref = false; low = false; high = false }
+byRid = record { bus = false; rid = true; mem = false; pref = false; low = false; high = false; vga = false }
 
 byAll : Decoders
-byAll = record { bus = true; rid = true; mem = true; pref = true; low = true; high = true }
+byAll = record { bus = true; rid = true; mem = true; pref = true; low = true; high = true; vga = true }
 
 pair : refusedLine
     (record {
@@ -51,7 +51,7 @@ pair : refusedLine
 unfolding byBus byRid refusedLine targetWords portsWords holdWords decoderWords spaced ascii decimal digitsUpTo
 pair = refl
 
-every-word : holderLine (record { port = portNo 0; own = true; decoders = byAll }) ≡ ascii "port 0 by own bus rid mem pref low high"
+every-word : holderLine (record { port = portNo 0; own = true; decoders = byAll }) ≡ ascii "port 0 by own bus rid mem pref low high vga"
 unfolding byAll holderLine holdWords decoderWords spaced ascii decimal digitsUpTo
 every-word = refl
 

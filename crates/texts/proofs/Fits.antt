@@ -91,7 +91,7 @@ word-short : (applies : Bool) (word : List ℕ) (k : ℕ) → length word ≤ k 
 word-short true word k short = short
 word-short false word k short = omega arith
 
-decoders-short : (d : Decoders) → length (decoderWords d) ≤ 26
+decoders-short : (d : Decoders) → length (decoderWords d) ≤ 30
 unfolding decoderWords ascii
 decoders-short d =
     simp length-append
@@ -103,15 +103,16 @@ decoders-short d =
       word-short (d .pref) (ascii " pref") 5 (omega arith),
       word-short (d .low) (ascii " low") 4 (omega arith),
       word-short (d .high) (ascii " high") 5 (omega arith),
+      word-short (d .vga) (ascii " vga") 4 (omega arith),
     ))
 
-hold-short : (h : Hold) → h .port .0 < 256 → length (holdWords h) ≤ 37
+hold-short : (h : Hold) → h .port .0 < 256 → length (holdWords h) ≤ 41
 unfolding holdWords ascii
 hold-short h fit =
     simp length-append
     (omega (arith, byte-short (h .port .0) fit, word-short (h .own) (ascii " own") 4 (omega arith), decoders-short (h .decoders)))
 
-ports-short : (ports : Named) → Bytes (named ports) → length (portsWords ports) ≤ 80
+ports-short : (ports : Named) → Bytes (named ports) → length (portsWords ports) ≤ 88
 unfolding portsWords ascii
 ports-short NoPort fit = omega arith
 ports-short (Port p) fit = omega (arith, byte-short (p .0) (fit .0))

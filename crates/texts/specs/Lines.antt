@@ -19,7 +19,7 @@ targetWords NoTarget = []
 targetWords (Least (Id rid)) = ascii " id " ++ digits 16 4 (rid .0)
 targetWords (Least (Addr a)) = ascii " addr " ++ digits 16 16 a
 
--- 02, Item 3: "after each port number, ` by` and those of ` own bus rid mem pref low high` that apply"
+-- 02, Item 3: "after each port number, ` by` and those of ` own bus rid mem pref low high` that apply"; Item 4: "(` vga`, last)"
 unfoldable pub decoderWords : Decoders → List ℕ
 decoderWords d =
     cond (d .bus) (ascii " bus") []
@@ -28,6 +28,7 @@ decoderWords d =
     ++ cond (d .pref) (ascii " pref") []
     ++ cond (d .low) (ascii " low") []
     ++ cond (d .high) (ascii " high") []
+    ++ cond (d .vga) (ascii " vga") []
 
 unfoldable pub holdWords : Hold → List ℕ
 holdWords h = spaced (h .port .0) ++ ascii " by" ++ cond (h .own) (ascii " own") [] ++ decoderWords (h .decoders)

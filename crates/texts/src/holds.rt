@@ -24,7 +24,8 @@ fn with_decoders(text: Text, d: Decoders) -> Text
 {
     let of_ids = with_word(with_word(text, d.bus, b" bus"), d.rid, b" rid");
     let of_windows = with_word(with_word(of_ids, d.mem, b" mem"), d.pref, b" pref");
-    with_word(with_word(of_windows, d.low, b" low"), d.high, b" high")
+    let of_vectors = with_word(with_word(of_windows, d.low, b" low"), d.high, b" high");
+    with_word(of_vectors, d.vga, b" vga")
 }
 
 // The text with a port's number after a space, and by what the port holds the target.

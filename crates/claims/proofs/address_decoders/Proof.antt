@@ -30,9 +30,12 @@ vector-requires-2 c κs = search needs
 high-claims-requires : tie.Need-high-claims-requires
 high-claims-requires c κs = search needs
 
+video-claims-requires : tie.Need-video-claims-requires
+video-claims-requires c κs = search needs
+
 returns : tie.Need-returns
 unfolding addressDecoders
-returns c = rw (c .high-claims .ensures, c .before .vector2 .ensures .0, c .before .before .low-claims .ensures, c .before .before .before .vector .ensures .0, c .before .before .before .before .prefetchable-claims .ensures, c .before .before .before .before .before .memory-claims .ensures, c .before .before .before .before .before .before .before .before .no-decoders .ensures, ← c .before .before .before .before .before .before .before .before .before .before .before .port-at .ensures, ← c .before .before .before .before .before .before .before .memory-space-enabled .ensures, c .before .before .before .before .before .before .if1 .taken)
+returns c = rw (c .video-claims .ensures, c .before .high-claims .ensures, c .before .before .vector2 .ensures .0, c .before .before .before .low-claims .ensures, c .before .before .before .before .vector .ensures .0, c .before .before .before .before .before .prefetchable-claims .ensures, c .before .before .before .before .before .before .memory-claims .ensures, c .before .before .before .before .before .before .before .before .before .no-decoders .ensures, ← c .before .before .before .before .before .before .before .before .before .before .before .before .port-at .ensures, ← c .before .before .before .before .before .before .before .before .memory-space-enabled .ensures, c .before .before .before .before .before .before .before .if1 .taken)
 
 returns-2 : tie.Need-returns-2
 unfolding addressDecoders
@@ -51,5 +54,6 @@ address-decoders-spec =
     low-claims-requires
     vector-requires-2
     high-claims-requires
+    video-claims-requires
     returns
     returns-2)

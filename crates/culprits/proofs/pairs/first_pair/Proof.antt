@@ -1,4 +1,4 @@
-use Rattle.culprits.proofs.FirstPair.{port-left, port-passed, pair-here}
+use Rattle.culprits.proofs.FirstPair.{port-left, tried, pair-here}
 use Rattle.least.proofs.Laws.{NoneIn, none-empty, none-more}
 use Rattle.chassis.specs.Check.{clash, clashesWith}
 use Rattle.claims.specs.Over.{chassisOver}
@@ -36,7 +36,7 @@ ports-less : tie.Need-ports-less Inv-loop μ-loop Inv-ports μ-ports
 ports-less c = omega (arith, port-left (chassisOver (c .before .before .before .before .before .args .s .now) (c .before .before .before .before .before .args .patch .now)) (c .before .before .before .before .before .args .t) (c .before .before .ports .inv) (c .before .before .before .before .before .pre .1), c .before .before .before .before .before .pre .0)
 
 ports-again : tie.Need-ports-again Inv-loop μ-loop Inv-ports μ-ports
-ports-again c = none-more (c .before .before .ports .inv) (port-passed (chassisOver (c .before .before .before .before .before .args .s .now) (c .before .before .before .before .before .args .patch .now)) (c .before .before .before .before .before .args .t) (c .before .before .ports .inv) (c .before .loop .inv .1) (c .loop-test .left) (c .before .before .before .before .before .pre .0))
+ports-again c = none-more (c .before .before .ports .inv) (tried (chassisOver (c .before .before .before .before .before .args .s .now) (c .before .before .before .before .before .args .patch .now)) (c .before .before .before .before .before .args .t) _ (c .before .loop .inv .1) (c .loop-test .left) (c .before .before .before .before .before .pre .0))
 
 returns : tie.Need-returns Inv-loop μ-loop Inv-ports μ-ports
 returns c = pair-here (chassisOver (c .before .before .before .before .before .before .before .args .s .now) (c .before .before .before .before .before .before .before .args .patch .now)) (c .before .before .before .before .before .before .before .args .t) (c .before .before .before .before .ports .inv) (c .before .before .before .loop .inv .1) (rw (c .before .before .before .before .before .before .before .pre .0) at (c .before .before .loop-test .taken)) (sym (c .before .clashes .ensures) ∙ c .if1 .taken) (port-left (chassisOver (c .before .before .before .before .before .before .before .args .s .now) (c .before .before .before .before .before .before .before .args .patch .now)) (c .before .before .before .before .before .before .before .args .t) (c .before .before .before .before .ports .inv) (c .before .before .before .before .before .before .before .pre .1))

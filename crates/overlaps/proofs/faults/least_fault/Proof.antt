@@ -1,32 +1,26 @@
-use Rattle.overlaps.proofs.Folds.{faults-begin, faults-end}
-use Rattle.overlaps.specs.Overlaps.{faultyTo}
+use borrow.Author.Needs.{needs}
+use mathlib.Core.Path.{_∙_}
+use Rattle.patches.specs.Halves.{vectorOver}
 use Rattle.claims.specs.Over.{chassisOver}
-use Rattle.chassis.specs.Check.{leastTarget}
-use native.Mathlib.Omega.{arith}
-use Prim.Native.Nat.{_≤_, _-_}
-use mathlib.Core.Path.{_≡_, _∙_}
+use Rattle.claims.proofs.OfVideo.{of-video}
+use Rattle.overlaps.proofs.WithVideo.{least-id, least-address}
 use Rattle.overlaps.proofs.faults.least_fault.Statement.{statement}
 use Rattle.overlaps.proofs.faults.least_fault.Tie as tie
 
-abbrev Inv-loop : tie.InvT-loop
-Inv-loop s patch n fault space best₀ p₀ best p = (p ≤ n) × (best ≡ leastTarget (faultyTo fault (chassisOver s patch) p) space)
+returns : tie.Need-returns
+returns c = rw (c .enum-told .given .1) ((rw (c .enum-told .given .1) at (c .before .before .least-beside .ensures)) ∙ least-id (chassisOver (c .before .before .before .before .before .args .s .now) (c .before .before .before .before .before .args .patch .now)) (of-video (c .before .before .before .before .before .args .s .now) (vectorOver (c .before .before .before .before .before .args .s .now) (c .before .before .before .before .before .args .patch .now))) (c .before .before .before .before .before .args .fault))
 
-abbrev μ-loop : tie.MeasureT-loop
-μ-loop s patch n fault space best₀ p₀ best p = n - p
-
-loop-holds : tie.Need-loop-holds Inv-loop μ-loop
-loop-holds c = (omega arith, faults-begin (chassisOver (c .before .before .args .s .now) (c .before .before .args .patch .now)) (c .before .before .args .space) (c .before .before .args .fault))
-
-with-port-requires : tie.Need-with-port-requires Inv-loop μ-loop
-with-port-requires c κs = (c .before .before .before .before .pre, (c .loop-test .taken, c .before .loop .inv .1))
-
-loop-again : tie.Need-loop-again Inv-loop μ-loop
-loop-again c = (omega arith, c .with-port .ensures)
-
-returns : tie.Need-returns Inv-loop μ-loop
-returns c = c .before .loop .inv .1 ∙ faults-end (chassisOver (c .before .before .before .before .args .s .now) (c .before .before .before .before .args .patch .now)) (c .before .before .before .before .args .space) (c .before .before .before .before .args .fault) (c .before .loop .inv .0) (c .loop-test .left) (c .before .before .before .before .pre)
+returns-2 : tie.Need-returns-2
+returns-2 c = c .sooner .ensures ∙ rw (c .before .least-of-video .ensures, c .before .before .before .before .least-beside .ensures, c .before .before .enum-told2 .given .1) (least-address (chassisOver (c .before .before .before .before .before .before .before .args .s .now) (c .before .before .before .before .before .before .before .args .patch .now)) (of-video (c .before .before .before .before .before .before .before .args .s .now) (vectorOver (c .before .before .before .before .before .before .before .args .s .now) (c .before .before .before .before .before .before .before .args .patch .now))) (c .before .before .before .before .before .before .before .args .fault))
 
 pub least-fault-spec : {M : Type 1} → statement M
 least-fault-spec =
     tie.close
-    (tie.spec Inv-loop μ-loop loop-holds with-port-requires (λ c. omega arith) (λ c. omega arith) loop-again returns)
+    (tie.spec
+    (λ c κs. search needs)
+    (λ c. search needs)
+    (λ c. search needs)
+    (λ c κs. search needs)
+    (λ c κs. search needs)
+    returns
+    returns-2)

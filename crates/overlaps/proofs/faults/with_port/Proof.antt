@@ -1,4 +1,4 @@
-use Rattle.claims.specs.Over.{chassisOver}
+use Rattle.claims.specs.Beside.{chassisBeside}
 use Rattle.chassis.specs.Check.{leastTarget}
 use Rattle.chassis.specs.declared.Fault.{Fault}
 use Rattle.overlaps.specs.Overlaps.{faultyTo}

@@ -1,4 +1,4 @@
-use Rattle.claims.specs.Over.{chassisOver}
+use Rattle.claims.specs.Beside.{chassisBeside}
 use Rattle.overlaps.proofs.Folds.{with-stray, without-stray}
 use Rattle.least.specs.Least.{soonest}
 use mathlib.Core.Path.{sym, _∙_, ap}
@@ -13,7 +13,7 @@ returns-2 : tie.Need-returns-2
 returns-2 c =
     c .least-meeting .ensures
     ∙ rw (c .before .parent-at .ensures)
-    (with-stray (chassisOver (c .before .before .before .before .before .before .args .s .now) (c .before .before .before .before .before .before .args .patch .now)) (c .before .before .before .before .before .before .args .space) (c .before .before .before .before .before .before .args .p .0) (c .before .before .before .before .before .before .pre) (λ e. c .before .before .if1 .left (c .before .before .before .kind-at .ensures ∙ e)))
+    (with-stray (chassisBeside (c .before .before .before .before .before .before .args .s .now) (c .before .before .before .before .before .before .args .patch .now)) (c .before .before .before .before .before .before .args .space) (c .before .before .before .before .before .before .args .p .0) (c .before .before .before .before .before .before .pre) (λ e. c .before .before .if1 .left (c .before .before .before .kind-at .ensures ∙ e)))
 
 pub with-child-spec : {M : Type 1} → statement M
 with-child-spec =

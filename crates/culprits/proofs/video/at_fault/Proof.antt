@@ -1,0 +1,14 @@
+use borrow.Author.Needs.{needs}
+use Rattle.culprits.proofs.video.at_fault.Statement.{statement}
+use Rattle.culprits.proofs.video.at_fault.Tie as tie
+
+returns : tie.Need-returns
+returns c = rw (c .before .enum-told .given .1) (c .clashes-with .ensures)
+
+returns-2 : tie.Need-returns-2
+returns-2 c = rw (c .before .enum-told2 .given .1) (c .strays-at .ensures)
+
+pub at-fault-spec : {M : Type 1} → statement M
+at-fault-spec =
+    tie.close
+    (tie.spec (λ c. search needs) (λ c κs. search needs) (λ c. search needs) (λ c κs. search needs) returns returns-2)
