@@ -15,7 +15,7 @@ static uint8_t picture[65537];
 
 static const char *const kinds[] = {"id", "address", "config"};
 static const char *const ends[] = {"none", "device", "function", "host", "unsupported request", "doubled"};
-static const char *const decoders[] = {"bus", "rid", "mem", "pref", "low", "high"};
+static const char *const decoders[] = {"bus", "rid", "mem", "pref", "low", "high", "vga"};
 
 struct packet {
     uint32_t kind, start;

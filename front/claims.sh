@@ -7,7 +7,8 @@
 #   TARGET  hexadecimal, as 0300, 0x0300 or 0300h; an ID also as bus, device and Function, 03:00.0
 #
 # Behind `by', of an ID: `own', the port's own ID, which is no claim; `bus', its bus pair; `rid', its RID vector. Of an address:
-# `mem', Memory Base and Limit; `pref', Prefetchable Base and Limit; `low' and `high', the vectors below 4 GiB and from there on.
+# `mem', Memory Base and Limit; `pref', Prefetchable Base and Limit; `low' and `high', the vectors below 4 GiB and from there on;
+# `vga', VGA Enable, for the video range A0000h to BFFFFh.
 # A picture that does not read is refused as in `report', and an ID over FFFFh by 16.
 # Without FILE, or with `-', the picture is read from standard input.
 # Status: 0 ports or nobody; 1 refused; 2 bad usage, or no answer: standard error says why.

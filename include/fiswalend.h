@@ -30,9 +30,9 @@ extern "C" {
 
 /* The version of this header and of the archive that it comes with, as numbers and as text. */
 #define FPB_VERSION_MAJOR 1
-#define FPB_VERSION_MINOR 3
+#define FPB_VERSION_MINOR 4
 #define FPB_VERSION_PATCH 0
-#define FPB_VERSION "1.3.0"
+#define FPB_VERSION "1.4.0"
 
 /* The bytes of an answer, and the places in its path. */
 #define FPB_ANSWER_LENGTH 40
@@ -94,7 +94,8 @@ enum fpb_decoder {
     FPB_MEM = 4,   /* Memory Base and Limit: mem */
     FPB_PREF = 8,  /* Prefetchable Memory Base and Limit: pref */
     FPB_LOW = 16,  /* the MEM Low vector, below 4 GiB: low */
-    FPB_HIGH = 32  /* the MEM High vector, from 4 GiB on: high */
+    FPB_HIGH = 32, /* the MEM High vector, from 4 GiB on: high */
+    FPB_VGA = 64   /* VGA Enable of Bridge Control, A0000h to BFFFFh: vga */
 };
 
 /* What a port makes of a configuration request that would cross it downward. */

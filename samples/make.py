@@ -6,6 +6,7 @@ import struct
 HERE = os.path.dirname(os.path.abspath(__file__))
 ROOT, UPSTREAM, DOWNSTREAM = 0, 1, 2
 MEMORY_SPACE, ARI = 2, 1 << 5
+VGA, VGA_16_BIT = 1 << 3, 1 << 4
 RID, LOW, HIGH = 0, 1, 2
 SIZE_SHIFT = {RID: 8, LOW: 16, HIGH: 24}
 
@@ -14,10 +15,10 @@ class Port:
     """A port's record and vectors; what is not said is off: no buses, empty memory windows, no vectors."""
 
     def __init__(self, kind, parent, own, buses=(0, 0), command=MEMORY_SPACE, memory=(0xFFF0, 0), prefetchable=(0xFFF1, 1),
-                 upper=(0, 0), device_control_2=0):
+                 upper=(0, 0), device_control_2=0, bridge_control=0):
         self.kind, self.parent, self.own, self.buses, self.command = kind, parent, own, buses, command
         self.memory, self.prefetchable, self.upper = memory, prefetchable, upper
-        self.device_control_2, self.bridge_control = device_control_2, 0
+        self.device_control_2, self.bridge_control = device_control_2, bridge_control
         self.capabilities, self.controls, self.vectors = 0, [0, 0, 0, 0, 0], {}
 
     def vector(self, which, size_code, granularity, start, entries, enabled=True):
@@ -81,6 +82,16 @@ def level_card(low):
     return Port(DOWNSTREAM, 1, 0x0200, buses=(3, 3)).vector(LOW, 0, 0, 0xE00, low)
 
 
+def above(last_bus, **registers):
+    """A root port and the upstream port of a switch below it, with the same registers for memory and Bridge Control."""
+    return [Port(ROOT, 255, 0x0008, buses=(1, last_bus), **registers), Port(UPSTREAM, 0, 0x0100, buses=(2, last_bus), **registers)]
+
+
+def beside_display(low):
+    """A port without VGA Enable; its MEM Low vector is over all of the first 4 GiB, by 16 MiB."""
+    return Port(DOWNSTREAM, 1, 0x0208, buses=(4, 4), bridge_control=VGA_16_BIT).vector(LOW, 0, 4, 0, low)
+
+
 def chain(length):
     """A root port and below it upstream and downstream ports in turn."""
     kinds = [ROOT] + [UPSTREAM if i % 2 else DOWNSTREAM for i in range(1, length)]
@@ -113,10 +124,10 @@ SAMPLES = {
     'switch': picture(SWITCH),
     # every kind of decoder in use, and a root port between the ports of a switch
     'every-decoder': picture([
-        Port(ROOT, 255, 0x0008, buses=(1, 4), memory=(0xE000, 0xEFF0), prefetchable=(0x0001, 0xFFF1), upper=(1, 1)),
-        Port(ROOT, 255, 0x0010, command=0, memory=(0xE000, 0xEFF0)),
-        Port(UPSTREAM, 0, 0x0100, buses=(2, 4), memory=(0xE000, 0xEFF0), prefetchable=(0x0001, 0xFFF1), upper=(1, 1)),
-        Port(DOWNSTREAM, 2, 0x0200, buses=(3, 3)).vector(LOW, 0, 0, 0xE00, [1, 5]),
+        Port(ROOT, 255, 0x0008, buses=(1, 4), memory=(0xE000, 0xEFF0), prefetchable=(0x0001, 0xFFF1), upper=(1, 1), bridge_control=VGA),
+        Port(ROOT, 255, 0x0010, command=0, memory=(0xE000, 0xEFF0), bridge_control=VGA),
+        Port(UPSTREAM, 0, 0x0100, buses=(2, 4), memory=(0xE000, 0xEFF0), prefetchable=(0x0001, 0xFFF1), upper=(1, 1), bridge_control=VGA),
+        Port(DOWNSTREAM, 2, 0x0200, buses=(3, 3), bridge_control=VGA).vector(LOW, 0, 0, 0xE00, [1, 5]),
         Port(ROOT, 255, 0x0018, buses=(16, 16), prefetchable=(0xD000, 0xD000)).vector(LOW, 1, 0, 0xE00, [1], enabled=False),
         Port(DOWNSTREAM, 2, 0x0208, buses=(4, 4), device_control_2=ARI).vector(RID, 0, 0, 0x80, [0, 31]).vector(HIGH, 1, 0, 16, [0, 1, 7]),
     ]),
@@ -182,6 +193,35 @@ SAMPLES = {
         level_card([1, 5]),
         card(),
     ]),
+    # a display card below port 2, and VGA Enable in all ports above it
+    'display-card': picture(above(4, memory=(0xE000, 0xEFF0), prefetchable=(0x0001, 0xFFF1), upper=(1, 1), bridge_control=VGA) + [
+        Port(DOWNSTREAM, 1, 0x0200, buses=(3, 3), memory=(0xE000, 0xE0F0), prefetchable=(0x0001, 0x0FF1), upper=(1, 1),
+             bridge_control=VGA | VGA_16_BIT),
+        beside_display([0xE1]),
+    ]),
+    # ports 2 and 3 of one switch have VGA Enable, port 4 does not
+    'two-displays': picture(above(5, bridge_control=VGA) + [
+        Port(DOWNSTREAM, 1, 0x0200, buses=(3, 3), bridge_control=VGA),
+        Port(DOWNSTREAM, 1, 0x0208, buses=(4, 4), bridge_control=VGA),
+        Port(DOWNSTREAM, 1, 0x0210, buses=(5, 5)),
+    ]),
+    # a display card whose switch has VGA Enable in its downstream port 2 and not in its upstream port
+    'stray-display': picture([
+        Port(ROOT, 255, 0x0008, buses=(1, 4), bridge_control=VGA),
+        Port(UPSTREAM, 0, 0x0100, buses=(2, 4)),
+        Port(DOWNSTREAM, 1, 0x0200, buses=(3, 3), bridge_control=VGA),
+        Port(DOWNSTREAM, 1, 0x0208, buses=(4, 4)),
+    ]),
+    # port 2 has memory registers of zeros, which are the first MiB, and port 3 a display card
+    'display-over-the-first-mib': picture(above(4, bridge_control=VGA) + [
+        Port(DOWNSTREAM, 1, 0x0200, buses=(3, 3), memory=(0, 0), prefetchable=(0, 0)),
+        Port(DOWNSTREAM, 1, 0x0208, buses=(4, 4), bridge_control=VGA),
+    ]),
+    # port 2 has the video range by both windows, by its MEM Low vector and by VGA Enable, port 3 by VGA Enable alone
+    'four-decoders': picture(above(4, memory=(0, 0), bridge_control=VGA) + [
+        Port(DOWNSTREAM, 1, 0x0200, buses=(3, 3), memory=(0, 0), prefetchable=(0, 0), bridge_control=VGA).vector(LOW, 0, 0, 0, [0]),
+        Port(DOWNSTREAM, 1, 0x0208, buses=(4, 4), bridge_control=VGA),
+    ]),
     'eight-before-nine': picture([Port(ROOT, 255, 8).vector(LOW, 0, 4, 8, [0]), Port(ROOT, 255, 16, memory=(0xE001, 0xE000))]),
 }
 
@@ -197,6 +237,9 @@ PATCHES = {
     'waiting-card.nothing': patch(),
     # port 3 without the granule that both have
     'shared-granule.mends': patch((3, level_card([9]))),
+    # an entry that reaches over the video range, and one that does not
+    'display-card.collides': patch((3, beside_display([0, 0xE1]))),
+    'display-card.fits': patch((3, beside_display([0xE1, 0xE2]))),
     # a patch over a picture that does not read
     'short.nothing': patch(),
     'waiting-card.no-bytes': b'',

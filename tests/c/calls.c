@@ -46,6 +46,19 @@ struct trial_case {
     struct patch_case patch;
 };
 
+/* A sample in which the byte `at` is changed. */
+struct changed_check {
+    size_t at;
+    uint8_t byte;
+    struct check_case check;
+};
+
+struct changed_walk {
+    size_t at;
+    uint8_t byte;
+    struct walk_case walk;
+};
+
 struct trial_check {
     struct trial_case trial;
     struct check_case check;
@@ -81,6 +94,12 @@ static const struct check_case checks[] = {
     {"shared-granule", {12, 0, 2, 3, 0, 0, 0, 0}, 0xE0500000},
     {"far-apart-at-the-top", {12, 0, 2, 9, 0, 0, 0, 0}, 0xFFFFFFFFF0000000},
     {"at-four-gib", {12, 0, 0, 1, 0, 0, 0, 0}, 0x100000000},
+    {"every-decoder", {0, 0, 255, 255, 0, 0, 0, 0}, 0},
+    {"display-card", {0, 0, 255, 255, 0, 0, 0, 0}, 0},
+    {"two-displays", {12, 0, 2, 3, 0, 0, 0, 0}, 0xA0000},
+    {"display-over-the-first-mib", {12, 0, 2, 3, 0, 0, 0, 0}, 0xA0000},
+    {"four-decoders", {12, 0, 2, 3, 0, 0, 0, 0}, 0xA0000},
+    {"stray-display", {14, 0, 2, 255, 0, 0, 0, 0}, 0xA0000},
     {"stray-id", {13, 0, 1, 255, 0, 0, 0, 0}, 0x0200},
     {"stray-address", {14, 0, 1, 255, 0, 0, 0, 0}, 0xE0100000},
     {"own-id-lost", {15, 0, 1, 255, 0, 0, 0, 0}, 0},
@@ -96,6 +115,17 @@ static const struct walk_case walks[] = {
     {"switch", FPB_CONFIG, FPB_HOST, 0x0305, {0, 1, 2, 255, 3, 5, 0, 0}, {0, 1, 2}},
     {"shared-granule", FPB_ADDRESS, FPB_HOST, 0xE0500000, {0, 5, 2, 3, 2, 0, 0, 0}, {0, 1}},
     {"far-apart-at-the-top", FPB_ADDRESS, FPB_HOST, 0xFFFFFFFFFFFFFFFF, {0, 5, 2, 9, 2, 0, 0, 0}, {0, 1}},
+    {"display-card", FPB_ADDRESS, FPB_HOST, 0x9FFFF, {0, 3, 255, 255, 0, 0, 0, 0}, UNUSED},
+    {"display-card", FPB_ADDRESS, FPB_HOST, 0xA0000, {0, 1, 2, 255, 3, 0, 0, 0}, {0, 1, 2}},
+    {"display-card", FPB_ADDRESS, FPB_HOST, 0xBFFFF, {0, 1, 2, 255, 3, 0, 0, 0}, {0, 1, 2}},
+    {"display-card", FPB_ADDRESS, FPB_HOST, 0xC0000, {0, 3, 255, 255, 0, 0, 0, 0}, UNUSED},
+    {"display-card", FPB_ADDRESS, 2, 0xA0000, {0, 4, 2, 255, 0, 0, 0, 0}, UNUSED},
+    {"display-card", FPB_ADDRESS, 3, 0x9FFFF, {0, 3, 255, 255, 3, 0, 0, 0}, {3, 1, 0}},
+    {"display-card", FPB_ADDRESS, 3, 0xA0000, {0, 1, 2, 255, 2, 0, 0, 0}, {3, 2}},
+    {"display-card", FPB_ID, FPB_HOST, 0xA0000, {16, 0, 255, 255, 0, 0, 0, 0}, UNUSED},
+    {"two-displays", FPB_ADDRESS, FPB_HOST, 0xBFFFF, {0, 5, 2, 3, 2, 0, 0, 0}, {0, 1}},
+    {"two-displays", FPB_ADDRESS, 4, 0xA0000, {0, 5, 2, 3, 1, 0, 0, 0}, {4}},
+    {"stray-display", FPB_ADDRESS, FPB_HOST, 0xA0000, {0, 4, 0, 255, 1, 0, 0, 0}, {0}},
     {"two-chains",
      FPB_ID,
      14,
@@ -121,8 +151,52 @@ static const struct walk_case walks[] = {
     {"switch", FPB_ID, 511, 0x0300, {16, 0, 255, 255, 0, 0, 0, 0}, UNUSED},
 };
 
-/* New vectors for these ports of shared-granule (ports 2 and 3), last-id (port 1) and every-decoder (ports 3, 4 and 5). Of
- * shared-granule, port 2 has entries 1 and 5 set and port 3 entries 5 and 9. */
+/* A byte in the record of a port: the low bytes of Command, Device Control 2 and Bridge Control. */
+#define COMMAND(port) (16 + 56 * (port) + 4)
+#define DEVICE_CONTROL_2(port) (16 + 56 * (port) + 24)
+#define BRIDGE_CONTROL(port) (16 + 56 * (port) + 26)
+#define MEMORY_SPACE 2
+#define ARI (1 << 5)
+#define VGA (1 << 3)
+#define VGA_16_BIT (1 << 4)
+
+/* VGA Enable with and without Memory Space Enable, at ports with a display, beside and above them; in the last, nobody below the
+ * switch has the video range by it, and port 2 has the first MiB. */
+static const struct changed_check changed_checks[] = {
+    {BRIDGE_CONTROL(0), 0, {"display-card", {14, 0, 1, 255, 0, 0, 0, 0}, 0xA0000}},
+    {BRIDGE_CONTROL(0), VGA_16_BIT, {"display-card", {14, 0, 1, 255, 0, 0, 0, 0}, 0xA0000}},
+    {BRIDGE_CONTROL(1), (uint8_t)~VGA, {"display-card", {14, 0, 2, 255, 0, 0, 0, 0}, 0xA0000}},
+    {COMMAND(1), (uint8_t)~MEMORY_SPACE, {"display-card", {14, 0, 2, 255, 0, 0, 0, 0}, 0xA0000}},
+    {BRIDGE_CONTROL(2), VGA_16_BIT, {"display-card", {0, 0, 255, 255, 0, 0, 0, 0}, 0}},
+    {COMMAND(2), (uint8_t)~MEMORY_SPACE, {"display-card", {0, 0, 255, 255, 0, 0, 0, 0}, 0}},
+    {BRIDGE_CONTROL(3), VGA, {"display-card", {12, 0, 2, 3, 0, 0, 0, 0}, 0xA0000}},
+    {BRIDGE_CONTROL(3), (uint8_t)~VGA, {"display-card", {0, 0, 255, 255, 0, 0, 0, 0}, 0}},
+    {BRIDGE_CONTROL(0), 0, {"two-displays", {12, 0, 2, 3, 0, 0, 0, 0}, 0xA0000}},
+    {BRIDGE_CONTROL(2), VGA_16_BIT, {"two-displays", {0, 0, 255, 255, 0, 0, 0, 0}, 0}},
+    {COMMAND(3), 0, {"two-displays", {0, 0, 255, 255, 0, 0, 0, 0}, 0}},
+    {BRIDGE_CONTROL(4), VGA, {"two-displays", {12, 0, 2, 3, 0, 0, 0, 0}, 0xA0000}},
+    {BRIDGE_CONTROL(1), VGA, {"stray-display", {0, 0, 255, 255, 0, 0, 0, 0}, 0}},
+    {COMMAND(0), 0, {"every-decoder", {14, 0, 2, 255, 0, 0, 0, 0}, 0xA0000}},
+    {COMMAND(1), MEMORY_SPACE, {"every-decoder", {12, 0, 0, 1, 0, 0, 0, 0}, 0xA0000}},
+    {BRIDGE_CONTROL(4), VGA, {"every-decoder", {12, 0, 0, 4, 0, 0, 0, 0}, 0xA0000}},
+    {BRIDGE_CONTROL(5), VGA, {"every-decoder", {12, 0, 3, 5, 0, 0, 0, 0}, 0xA0000}},
+    {COMMAND(3), 0, {"display-over-the-first-mib", {14, 0, 2, 255, 0, 0, 0, 0}, 0}},
+};
+
+/* With ARI set at port 2 of the switch, a configuration request for 0308h ends at the device's Function 8. With VGA Enable or
+ * Memory Space Enable changed at a port, a packet to the video range ends elsewhere. */
+static const struct changed_walk changed_walks[] = {
+    {DEVICE_CONTROL_2(2), ARI, {"switch", FPB_CONFIG, FPB_HOST, 0x0308, {0, 1, 2, 255, 3, 8, 0, 0}, {0, 1, 2}}},
+    {BRIDGE_CONTROL(0), 0, {"display-card", FPB_ADDRESS, FPB_HOST, 0xA0000, {0, 3, 255, 255, 0, 0, 0, 0}, UNUSED}},
+    {COMMAND(1), 0, {"display-card", FPB_ADDRESS, FPB_HOST, 0xA0000, {0, 4, 0, 255, 1, 0, 0, 0}, {0}}},
+    {BRIDGE_CONTROL(2), VGA_16_BIT, {"display-card", FPB_ADDRESS, FPB_HOST, 0xBFFFF, {0, 4, 1, 255, 2, 0, 0, 0}, {0, 1}}},
+    {BRIDGE_CONTROL(2), VGA_16_BIT, {"display-card", FPB_ADDRESS, 3, 0xA0000, {0, 4, 1, 255, 1, 0, 0, 0}, {3}}},
+    {COMMAND(3), 0, {"two-displays", FPB_ADDRESS, FPB_HOST, 0xA0000, {0, 1, 2, 255, 3, 0, 0, 0}, {0, 1, 2}}},
+    {COMMAND(1), MEMORY_SPACE, {"every-decoder", FPB_ADDRESS, FPB_HOST, 0xA0000, {0, 5, 0, 1, 0, 0, 0, 0}, UNUSED}},
+};
+
+/* New vectors for these ports of shared-granule (ports 2 and 3), last-id (port 1), every-decoder (ports 3, 4 and 5) and
+ * display-card (port 3, by 16 MiB from 0 on). Of shared-granule, port 2 has entries 1 and 5 set and port 3 entries 5 and 9. */
 #define NO_ROW {0, 0}
 #define PORT_3(...) {48, 1, 48, {{3, 16}, NO_ROW, NO_ROW}, {__VA_ARGS__}}
 #define PORT_3_APART PORT_3(ENTRY(16, 6), ENTRY(16, 9), 0, 0)
@@ -150,6 +224,11 @@ static const struct trial_check trial_checks[] = {
     {{0, 0, PORTS_3_4_5(ENTRY(32, 0), ENTRY(128, 33), ENTRY(128, 32), 0)},
      {"every-decoder", {13, 0, 5, 255, 0, 0, 0, 0}, 0x0500}},
     {{0, 0, PORT_5(ENTRY(48, 15), ENTRY(48, 16), 0, 0)}, {"every-decoder", {14, 0, 5, 255, 0, 0, 0, 0}, 0x200000000}},
+    {{0, 0, PORT_3(ENTRY(16, 0xE2), ENTRY(16, 0xEF), 0, 0)}, {"display-card", {0, 0, 255, 255, 0, 0, 0, 0}, 0}},
+    {{0, 0, PORT_3(ENTRY(16, 0), ENTRY(16, 0xE0), 0, 0)}, {"display-card", {12, 0, 2, 3, 0, 0, 0, 0}, 0xA0000}},
+    {{0, 0, PORT_3(ENTRY(16, 1), ENTRY(16, 0xE0), 0, 0)}, {"display-card", {12, 0, 2, 3, 0, 0, 0, 0}, 0xE0000000}},
+    {{BRIDGE_CONTROL(2), 0, PORT_3(ENTRY(16, 0), 0, 0, 0)}, {"display-card", {14, 0, 3, 255, 0, 0, 0, 0}, 0}},
+    {{BRIDGE_CONTROL(3), VGA, PORT_3(0, 0, 0, 0)}, {"display-card", {12, 0, 2, 3, 0, 0, 0, 0}, 0xA0000}},
 };
 
 static const struct trial_walk trial_walks[] = {
@@ -165,6 +244,11 @@ static const struct trial_walk trial_walks[] = {
     {{128, 0, PORT_1(ENTRY(16, 0), 0, 0, 0)}, {"last-id", FPB_ID, FPB_HOST, 0xFFFF, {0, 5, 0, 1, 0, 0, 0, 0}, UNUSED}},
     {{0, 0, PORT_5(ENTRY(16, 32), 0, 0, 0)}, {"every-decoder", FPB_ID, 3, 0x0500, {0, 1, 5, 255, 2, 0, 0, 0}, {3, 5}}},
     {{0, 0, PORT_5(0, 0, 0, 0)}, {"every-decoder", FPB_ID, 3, 0x0500, {0, 3, 255, 255, 3, 0, 0, 0}, {3, 2, 0}}},
+    {{0, 0, PORT_3(ENTRY(16, 0xE2), 0, 0, 0)},
+     {"display-card", FPB_ADDRESS, FPB_HOST, 0xA0000, {0, 1, 2, 255, 3, 0, 0, 0}, {0, 1, 2}}},
+    {{0, 0, PORT_3(ENTRY(16, 0), 0, 0, 0)}, {"display-card", FPB_ADDRESS, FPB_HOST, 0xBFFFF, {0, 5, 2, 3, 2, 0, 0, 0}, {0, 1}}},
+    {{0, 0, PORT_3(ENTRY(16, 0), 0, 0, 0)}, {"display-card", FPB_ADDRESS, FPB_HOST, 0xC0000, {0, 3, 255, 255, 0, 0, 0, 0}, UNUSED}},
+    {{0, 0, PORT_3(ENTRY(16, 0), 0, 0, 0)}, {"display-card", FPB_ADDRESS, 2, 0xC0000, {0, 1, 3, 255, 2, 0, 0, 0}, {2, 3}}},
     {{0, 0, PORT_3_APART}, {"shared-granule", 3, FPB_HOST, 0x0300, {16, 0, 255, 255, 0, 0, 0, 0}, UNUSED}},
     {{0, 0, PORT_3_APART}, {"shared-granule", FPB_ID, FPB_HOST, 0x10000, {16, 0, 255, 255, 0, 0, 0, 0}, UNUSED}},
     {{0, 0, PORT_3_APART}, {"shared-granule", FPB_ID, 1, 0x0300, {16, 0, 255, 255, 0, 0, 0, 0}, UNUSED}},
@@ -443,13 +527,23 @@ static void try_refused_patches(const char *folder)
     }
 }
 
-/* With ARI set at port 2 of the switch, a configuration request for 0308h ends at the device's Function 8. */
-static void try_ari(const char *folder)
+/* Samples in which a byte is changed. */
+static void try_changed_checks(const char *folder)
 {
-    static const struct walk_case ari = {
-        "switch", FPB_CONFIG, FPB_HOST, 0x0308, {0, 1, 2, 255, 3, 8, 0, 0}, {0, 1, 2}};
-    load_changed(folder, ari.sample, 16 + 56 * 2 + 24, 1 << 5);
-    try_walk_alone(&ari);
+    size_t i;
+    for (i = 0; i < COUNT(changed_checks); i++) {
+        load_changed(folder, changed_checks[i].check.sample, changed_checks[i].at, changed_checks[i].byte);
+        try_check_alone(&changed_checks[i].check);
+    }
+}
+
+static void try_changed_walks(const char *folder)
+{
+    size_t i;
+    for (i = 0; i < COUNT(changed_walks); i++) {
+        load_changed(folder, changed_walks[i].walk.sample, changed_walks[i].at, changed_walks[i].byte);
+        try_walk_alone(&changed_walks[i].walk);
+    }
 }
 
 /* Lays a patch whose ports are those of a set, bit p for port p; each has `bytes` of vectors, with no entry set. */
@@ -667,7 +761,8 @@ int main(int argc, char **argv)
         load(argv[1], walks[i].sample);
         try_walk_alone(&walks[i]);
     }
-    try_ari(argv[1]);
+    try_changed_checks(argv[1]);
+    try_changed_walks(argv[1]);
     try_trial_checks(argv[1]);
     try_trial_walks(argv[1]);
     try_refused_patches(argv[1]);

@@ -10,6 +10,9 @@
 #define MEMORY_SPACE 2
 #define ALL_BUT_MEMORY_SPACE 0xFFFD
 #define ARI (1 << 5)
+#define VGA (1 << 3)
+#define VGA_16_BIT (1 << 4)
+#define ALL_BUT_VGA 0xFFF7
 
 /* All three vectors of 256 entries each, enabled or not; Num Sec Dev. */
 #define VECTORS 96
@@ -34,13 +37,16 @@
 #define HIGH_ENTRY(i) (513 + (i))
 #define NO_ENTRIES {0, 0, 0, 0, 0, 0, 0, 0, 0, 0}
 
+/* No vector is enabled, and no entry set. */
+#define NO_VECTORS {0, 0, 0, NO_HIGH}, NO_ENTRIES
+
 struct port {
     uint8_t kind, parent;
     uint16_t own, command;
     uint8_t buses[2];
     uint16_t memory[2], prefetchable[2];
     uint32_t upper[2];
-    uint16_t device_control_2;
+    uint16_t device_control_2, bridge_control;
     uint32_t capabilities, controls[5];
     uint16_t entries[10];
 };
@@ -73,7 +79,13 @@ struct refused {
  * 3: as 0, with all bits of Command but Memory Space Enable.
  * 4: Secondary above Subordinate; registers of zeros, which are the first MiB; entries set in vectors that are not enabled.
  * 5: buses 0 and 1, with the own ID; RID entries of a bus from 0200h on, of which the last is past the last ID; MEM Low entries of
- *    16 MiB from 10000000h on. */
+ *    16 MiB from 10000000h on.
+ * 6: the video range, A0000h to BFFFFh.
+ * 7: nothing, since of VGA there is only the bit for 16-bit decode, which is about I/O.
+ * 8: nothing, with all bits of Bridge Control but VGA Enable.
+ * 9: nothing, with all bits of Bridge Control, and all of Command but Memory Space Enable.
+ * 10: the first MiB by Memory registers of zeros, and the video range.
+ * 11: the first MiB by both windows and by a MEM Low entry, the video range, and a MEM High entry from 4 GiB on. */
 #define WINDOWS {0xE000, 0xE030}, {0xE020, 0xE050}, {1, 1}
 #define CONTROLS {RID_FROM(0x0300, 0), 0, LOW_FROM(0xE0000000, 0), HIGH_FROM(0x100000000, 0)}
 #define ENTRIES \
@@ -81,19 +93,26 @@ struct refused {
      HIGH_ENTRY(0), HIGH_ENTRY(14)}
 
 static const struct port claimers[] = {
-    {ROOT, NO_PARENT, 0x0010, MEMORY_SPACE, {3, 5}, WINDOWS, 0, SUPPORTED, CONTROLS, ENTRIES},
-    {ROOT, NO_PARENT, 0x0018, MEMORY_SPACE, NO_BUSES, NO_MEMORY, {0xFFF1, 0x0001}, {0, 1}, 0, SUPPORTED,
+    {ROOT, NO_PARENT, 0x0010, MEMORY_SPACE, {3, 5}, WINDOWS, 0, 0, SUPPORTED, CONTROLS, ENTRIES},
+    {ROOT, NO_PARENT, 0x0018, MEMORY_SPACE, NO_BUSES, NO_MEMORY, {0xFFF1, 0x0001}, {0, 1}, 0, 0, SUPPORTED,
      {RID_FROM(0xFFF8, 0), 0, LOW_FROM(0xFF000000, 0), HIGH_FROM(0x000000000, 0)},
      {RID_ENTRY(0), RID_ENTRY(1), LOW_ENTRY(15), LOW_ENTRY(16), HIGH_ENTRY(15), HIGH_ENTRY(17), 0, 0, 0, 0}},
-    {ROOT, NO_PARENT, 0xFFFF, MEMORY_SPACE, {0xFF, 0xFF}, NO_MEMORY, {0x0001, 0xFFF1}, {1, 0xFFFFFFFF}, 0, SUPPORTED,
+    {ROOT, NO_PARENT, 0xFFFF, MEMORY_SPACE, {0xFF, 0xFF}, NO_MEMORY, {0x0001, 0xFFF1}, {1, 0xFFFFFFFF}, 0, 0, SUPPORTED,
      {RID_FROM(0xFF00, 0), 0, 0, HIGH_FROM(0xFFFFFFF800000000, 7)},
      {RID_ENTRY(31), RID_ENTRY(32), HIGH_ENTRY(0), HIGH_ENTRY(1), 0, 0, 0, 0, 0, 0}},
-    {ROOT, NO_PARENT, 0x0020, ALL_BUT_MEMORY_SPACE, {3, 5}, WINDOWS, 0, SUPPORTED, CONTROLS, ENTRIES},
-    {ROOT, NO_PARENT, 0x0400, MEMORY_SPACE, {5, 3}, {0, 0}, {0, 0}, {0, 0}, 0, SUPPORTED, {0, 0, 0, NO_HIGH},
+    {ROOT, NO_PARENT, 0x0020, ALL_BUT_MEMORY_SPACE, {3, 5}, WINDOWS, 0, 0, SUPPORTED, CONTROLS, ENTRIES},
+    {ROOT, NO_PARENT, 0x0400, MEMORY_SPACE, {5, 3}, {0, 0}, {0, 0}, {0, 0}, 0, 0, SUPPORTED, {0, 0, 0, NO_HIGH},
      {RID_ENTRY(0), RID_ENTRY(128), LOW_ENTRY(0), LOW_ENTRY(1), HIGH_ENTRY(16), 0, 0, 0, 0, 0}},
-    {ROOT, NO_PARENT, 0x0028, MEMORY_SPACE, {0, 1}, NO_MEMORY, NO_PREF, 0, SUPPORTED,
+    {ROOT, NO_PARENT, 0x0028, MEMORY_SPACE, {0, 1}, NO_MEMORY, NO_PREF, 0, 0, SUPPORTED,
      {RID_FROM(0x0200, 5), 0, LOW_FROM(0x10000000, 4), NO_HIGH},
      {RID_ENTRY(0), RID_ENTRY(255), LOW_ENTRY(0), 0, 0, 0, 0, 0, 0, 0}},
+    {ROOT, NO_PARENT, 0x0030, MEMORY_SPACE, NO_BUSES, NO_MEMORY, NO_PREF, 0, VGA, SUPPORTED, NO_VECTORS},
+    {ROOT, NO_PARENT, 0x0038, MEMORY_SPACE, NO_BUSES, NO_MEMORY, NO_PREF, 0, VGA_16_BIT, SUPPORTED, NO_VECTORS},
+    {ROOT, NO_PARENT, 0x0040, MEMORY_SPACE, NO_BUSES, NO_MEMORY, NO_PREF, 0, ALL_BUT_VGA, SUPPORTED, NO_VECTORS},
+    {ROOT, NO_PARENT, 0x0048, ALL_BUT_MEMORY_SPACE, NO_BUSES, NO_MEMORY, NO_PREF, 0, 0xFFFF, SUPPORTED, NO_VECTORS},
+    {ROOT, NO_PARENT, 0x0050, MEMORY_SPACE, NO_BUSES, {0, 0}, NO_PREF, 0, VGA, SUPPORTED, NO_VECTORS},
+    {ROOT, NO_PARENT, 0x0058, MEMORY_SPACE, NO_BUSES, {0, 0}, {0, 0}, {0, 0}, 0, VGA, SUPPORTED,
+     {0, 0, LOW_FROM(0x00000000, 0), HIGH_FROM(0x100000000, 0)}, {LOW_ENTRY(0), HIGH_ENTRY(0), 0, 0, 0, 0, 0, 0, 0, 0}},
 };
 
 static const struct answered claims[] = {
@@ -180,6 +199,38 @@ static const struct answered claims[] = {
     {{5, FPB_ADDRESS, 0x10000000}, FPB_LOW},
     {{5, FPB_ADDRESS, 0x10FFFFFF}, FPB_LOW},
     {{5, FPB_ADDRESS, 0x11000000}, 0},
+    {{6, FPB_ID, 0xA000}, 0},
+    {{6, FPB_ID, 0xBFFF}, 0},
+    {{6, FPB_ADDRESS, 0}, 0},
+    {{6, FPB_ADDRESS, 0xA000}, 0},
+    {{6, FPB_ADDRESS, 0x9FFFF}, 0},
+    {{6, FPB_ADDRESS, 0xA0000}, FPB_VGA},
+    {{6, FPB_ADDRESS, 0xAFFFF}, FPB_VGA},
+    {{6, FPB_ADDRESS, 0xB0000}, FPB_VGA},
+    {{6, FPB_ADDRESS, 0xBFFFF}, FPB_VGA},
+    {{6, FPB_ADDRESS, 0xC0000}, 0},
+    {{6, FPB_ADDRESS, 0xFFFFF}, 0},
+    {{6, FPB_ADDRESS, 0x1A0000}, 0},
+    {{6, FPB_ADDRESS, 0x1000A0000}, 0},
+    {{6, FPB_ADDRESS, 0x80000000000A0000}, 0},
+    {{7, FPB_ADDRESS, 0xA0000}, 0},
+    {{7, FPB_ADDRESS, 0xBFFFF}, 0},
+    {{8, FPB_ADDRESS, 0xA0000}, 0},
+    {{8, FPB_ADDRESS, 0xBFFFF}, 0},
+    {{9, FPB_ADDRESS, 0xA0000}, 0},
+    {{9, FPB_ADDRESS, 0xBFFFF}, 0},
+    {{10, FPB_ADDRESS, 0}, FPB_MEM},
+    {{10, FPB_ADDRESS, 0x9FFFF}, FPB_MEM},
+    {{10, FPB_ADDRESS, 0xA0000}, FPB_MEM | FPB_VGA},
+    {{10, FPB_ADDRESS, 0xBFFFF}, FPB_MEM | FPB_VGA},
+    {{10, FPB_ADDRESS, 0xC0000}, FPB_MEM},
+    {{10, FPB_ADDRESS, 0xFFFFF}, FPB_MEM},
+    {{10, FPB_ADDRESS, 0x100000}, 0},
+    {{11, FPB_ADDRESS, 0x9FFFF}, FPB_MEM | FPB_PREF | FPB_LOW},
+    {{11, FPB_ADDRESS, 0xA0000}, FPB_MEM | FPB_PREF | FPB_LOW | FPB_VGA},
+    {{11, FPB_ADDRESS, 0xBFFFF}, FPB_MEM | FPB_PREF | FPB_LOW | FPB_VGA},
+    {{11, FPB_ADDRESS, 0xC0000}, FPB_MEM | FPB_PREF | FPB_LOW},
+    {{11, FPB_ADDRESS, 0x1000A0000}, FPB_HIGH},
 };
 
 /* How the ports convert, and why:
@@ -192,17 +243,17 @@ static const struct answered claims[] = {
  * 6: bus 20h.
  * 7: an upstream port, bus FFh; RID entry 0 to 7; the Secondary range is from FFF8h to the last ID and does not go on at 0. */
 static const struct port converters[] = {
-    {ROOT, NO_PARENT, 0x0008, 0, {1, 4}, NO_MEMORY, NO_PREF, 0, SUPPORTED, {0, SECONDARY(0x0108), 0, NO_HIGH}, NO_ENTRIES},
-    {UPSTREAM, 0, 0x0100, 0, {2, 4}, NO_MEMORY, NO_PREF, 0, SUPPORTED, {0, 0, 0, NO_HIGH}, NO_ENTRIES},
-    {DOWNSTREAM, 1, 0x0200, 0, {3, 3}, NO_MEMORY, NO_PREF, ARI, SUPPORTED, {0, 0, 0, NO_HIGH}, NO_ENTRIES},
-    {DOWNSTREAM, 1, 0x0208, 0, {4, 5}, NO_MEMORY, NO_PREF, 0, SUPPORTED,
+    {ROOT, NO_PARENT, 0x0008, 0, {1, 4}, NO_MEMORY, NO_PREF, 0, 0, SUPPORTED, {0, SECONDARY(0x0108), 0, NO_HIGH}, NO_ENTRIES},
+    {UPSTREAM, 0, 0x0100, 0, {2, 4}, NO_MEMORY, NO_PREF, 0, 0, SUPPORTED, NO_VECTORS},
+    {DOWNSTREAM, 1, 0x0200, 0, {3, 3}, NO_MEMORY, NO_PREF, ARI, 0, SUPPORTED, NO_VECTORS},
+    {DOWNSTREAM, 1, 0x0208, 0, {4, 5}, NO_MEMORY, NO_PREF, 0, 0, SUPPORTED,
      {RID_FROM(0x0600, 0), SECONDARY(0x0508), 0, NO_HIGH}, {RID_ENTRY(0), 0, 0, 0, 0, 0, 0, 0, 0, 0}},
-    {ROOT, NO_PARENT, 0x0010, 0, NO_BUSES, NO_MEMORY, NO_PREF, ARI, SUPPORTED,
+    {ROOT, NO_PARENT, 0x0010, 0, NO_BUSES, NO_MEMORY, NO_PREF, ARI, 0, SUPPORTED,
      {RID_FROM(0x0700, 0), SECONDARY(0x07A8), 0, NO_HIGH}, {RID_ENTRY(1), RID_ENTRY(32), 0, 0, 0, 0, 0, 0, 0, 0}},
-    {UPSTREAM, 4, 0x0708, 0, {8, 9}, NO_MEMORY, NO_PREF, 0, SUPPORTED | SEC_DEV(2),
+    {UPSTREAM, 4, 0x0708, 0, {8, 9}, NO_MEMORY, NO_PREF, 0, 0, SUPPORTED | SEC_DEV(2),
      {RID_FROM(0x0900, 0), SECONDARY(0x0910), 0, NO_HIGH}, NO_ENTRIES},
-    {ROOT, NO_PARENT, 0x0018, 0, {0x20, 0x20}, NO_MEMORY, NO_PREF, 0, SUPPORTED, {0, 0, 0, NO_HIGH}, NO_ENTRIES},
-    {UPSTREAM, 6, 0x2000, 0, {0xFF, 0xFF}, NO_MEMORY, NO_PREF, 0, SUPPORTED | SEC_DEV(31),
+    {ROOT, NO_PARENT, 0x0018, 0, {0x20, 0x20}, NO_MEMORY, NO_PREF, 0, 0, SUPPORTED, NO_VECTORS},
+    {UPSTREAM, 6, 0x2000, 0, {0xFF, 0xFF}, NO_MEMORY, NO_PREF, 0, 0, SUPPORTED | SEC_DEV(31),
      {RID_FROM(0x0000, 0), SECONDARY(0xFFF8), 0, NO_HIGH}, {RID_ENTRY(0), 0, 0, 0, 0, 0, 0, 0, 0, 0}},
 };
 
@@ -335,7 +386,7 @@ static void lay_record(uint8_t *record, const struct port *p, uint32_t vectors_a
     put_u32(record + 12, p->prefetchable[0] | (uint32_t)p->prefetchable[1] << 16);
     put_u32(record + 16, p->upper[0]);
     put_u32(record + 20, p->upper[1]);
-    put_u32(record + 24, p->device_control_2);
+    put_u32(record + 24, p->device_control_2 | (uint32_t)p->bridge_control << 16);
     put_u32(record + 28, p->capabilities);
     for (i = 0; i < COUNT(p->controls); i++) {
         put_u32(record + 32 + 4 * i, p->controls[i]);
@@ -437,7 +488,7 @@ static void try_unreadable(const char *folder)
     }
 }
 
-/* A picture that does not pass the check is asked all the same: ports 2 and 3 share a granule. */
+/* A picture that does not pass the check is asked all the same: ports 2 and 3 share a granule, or the video range. */
 static void try_unsound(const char *folder)
 {
     static const struct answered shared[] = {
@@ -448,8 +499,17 @@ static void try_unsound(const char *folder)
         {{2, FPB_ADDRESS, 0xE0900000}, 0},
         {{3, FPB_ADDRESS, 0xE0900000}, FPB_LOW},
     };
+    static const struct answered displays[] = {
+        {{0, FPB_ADDRESS, 0xA0000}, FPB_VGA},
+        {{1, FPB_ADDRESS, 0xA0000}, FPB_VGA},
+        {{2, FPB_ADDRESS, 0xA0000}, FPB_VGA},
+        {{3, FPB_ADDRESS, 0xA0000}, FPB_VGA},
+        {{4, FPB_ADDRESS, 0xA0000}, 0},
+    };
     load(folder, "shared-granule");
     try_all(CLAIM, shared, COUNT(shared));
+    load(folder, "two-displays");
+    try_all(CLAIM, displays, COUNT(displays));
 }
 
 /* No picture at all, and zeros: as many as a picture may have, and one more. */

@@ -1,8 +1,8 @@
 -- What decoders claim together, said of the decoders one by one: beside the video range, and with it. Assumes nothing.
 use Prim.Native.Nat.{ℕ}
-use mathlib.Core.Bool.{Bool, true, false, cond, _&&_, _||_}
+use mathlib.Core.Bool.{Bool, true, false, cond, _&&_, _||_, or-false}
 use mathlib.Core.List.{List}
-use mathlib.Core.Path.{_≡_, refl}
+use mathlib.Core.Path.{_≡_, refl, _∙_}
 use Rattle.chassis.specs.declared.Decoders.{Decoders}
 use Rattle.chassis.specs.Chassis.{atLeastOne}
 use Rattle.registers.specs.declared.Port.{Port}
@@ -51,6 +51,11 @@ module _ (p : Port) (vector : Mechanism → List ℕ) where
   pub vga-of-id : (rid : ℕ) → idDecoders p vector rid .vga ≡ false
   unfolding idDecoders
   vga-of-id rid = refl
+
+  pub claims-id : (rid : ℕ)
+      → atLeastOne (idDecoders p vector rid) ≡ (busClaims (p .bridge) rid || vectorClaims (p .fpb) Rid (vector Rid) rid)
+  unfolding idDecoders
+  claims-id rid = with-video (idDecoders p vector rid) ∙ or-false _ ∙ beside-id rid
 
   pub vga-of-address : (a : ℕ) → addressDecoders p vector a .vga ≡ (memorySpaceEnabled (p .bridge) && videoClaims (p .bridge) a)
   unfolding addressDecoders

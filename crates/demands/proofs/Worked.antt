@@ -22,7 +22,7 @@ use Rattle.picture.specs.declared.Reading.the-variants.{Read}
 use Rattle.picture.specs.Reading.{reading}
 use Rattle.registers.specs.Record.{bridgeAt, fpbAt, portAt, recordAt}
 use Rattle.registers.specs.Rules.{withAri}
-use Rattle.claims.specs.Decoders.{between, busClaims, vectorClaims, memoryClaims, prefetchableClaims, lowClaims, highClaims, memorySpaceEnabled, idDecoders, addressDecoders}
+use Rattle.claims.specs.Decoders.{between, busClaims, vectorClaims, memoryClaims, prefetchableClaims, lowClaims, highClaims, vgaEnabled, videoClaims, memorySpaceEnabled, idDecoders, addressDecoders}
 use Rattle.claims.specs.Conversion.{inSecondaryRange, convertedByBus, converted}
 use Rattle.claims.specs.Claims.{chassisOf}
 use Rattle.claims.proofs.Joined.{claims-id}
@@ -52,10 +52,10 @@ windows : (a : ℕ)
     × (c .claims 1 (Addr a) ≡ between 0xE0000000 0xE00FFFFF a)
     × (c .claims 2 (Addr a) ≡ between 0xE0000000 0xE00FFFFF a)
     × (c .claims 3 (Addr a) ≡ false)
-unfolding zeros u16 u32 headerFor recordOf switchWith u16At u32At bridgeAt fpbAt portAt recordAt vectorClaims memoryClaims prefetchableClaims lowClaims highClaims memorySpaceEnabled addressDecoders atLeastOne
+unfolding zeros u16 u32 headerFor recordOf switchWith u16At u32At bridgeAt fpbAt portAt recordAt vectorClaims memoryClaims prefetchableClaims lowClaims highClaims vgaEnabled videoClaims memorySpaceEnabled addressDecoders atLeastOne
 windows a = (only-window, only-window, only-window, refl)
   where
-    only-window : (((between 0xE0000000 0xE00FFFFF a || between 0xFFF00000 0x000FFFFF a) || ltb a (2 ^ 32) && false) || leb (2 ^ 32) a && false)
+    only-window : ((((between 0xE0000000 0xE00FFFFF a || between 0xFFF00000 0x000FFFFF a) || ltb a (2 ^ 32) && false) || leb (2 ^ 32) a && false) || false)
         ≡ between 0xE0000000 0xE00FFFFF a
     only-window = simp (empty 0xFFF00000 0x000FFFFF a (omega arith), and-false, or-false)
 

@@ -12,7 +12,7 @@ use Rattle.chassis.specs.Tree.{anyBelow, isDevicePort}
 use Rattle.chassis.specs.Walk.{functionNumber, decided, downward, byHolders, soleHolder, deviceOr, comeTo, upward, fromBelow, underType0, underType1, next, Walk, ends, goes}
 use Rattle.registers.specs.Record.{bridgeAt, fpbAt, portAt, recordAt}
 use Rattle.registers.specs.Rules.{withAri}
-use Rattle.claims.specs.Decoders.{busClaims, vectorClaims, memoryClaims, prefetchableClaims, lowClaims, highClaims, memorySpaceEnabled, idDecoders, addressDecoders}
+use Rattle.claims.specs.Decoders.{busClaims, vectorClaims, memoryClaims, prefetchableClaims, lowClaims, highClaims, vgaEnabled, videoClaims, memorySpaceEnabled, idDecoders, addressDecoders}
 use Rattle.claims.specs.Conversion.{inSecondaryRange, convertedByBus, converted}
 use Rattle.claims.specs.Claims.{chassisOf}
 use Rattle.judge.specs.Asking.{targetAsked, idTooLarge}
@@ -35,7 +35,7 @@ given bus kind start target crossed end right walk =
     ))
 
 pub worked-walks : WorkedWalks
-unfolding zeros u16 u32 headerFor recordOf switchWith u16At u32At bridgeAt fpbAt portAt recordAt withAri busClaims vectorClaims memoryClaims prefetchableClaims lowClaims highClaims memorySpaceEnabled idDecoders atLeastOne addressDecoders inSecondaryRange convertedByBus converted holds withPort lowestTwo passesAt anyBelow isDevicePort functionNumber decided downward byHolders soleHolder deviceOr comeTo upward fromBelow underType0 underType1 next targetAsked packetOf idTooLarge isStart askedWrongly
+unfolding zeros u16 u32 headerFor recordOf switchWith u16At u32At bridgeAt fpbAt portAt recordAt withAri busClaims vectorClaims memoryClaims prefetchableClaims lowClaims highClaims vgaEnabled videoClaims memorySpaceEnabled idDecoders atLeastOne addressDecoders inSecondaryRange convertedByBus converted holds withPort lowestTwo passesAt anyBelow isDevicePort functionNumber decided downward byHolders soleHolder deviceOr comeTo upward fromBelow underType0 underType1 next targetAsked packetOf idTooLarge isStart askedWrongly
 worked-walks =
     record {
       down = given 4 0 255 0x0300 (0 ∷ 1 ∷ 2 ∷ []) (Device (portNo 2) 0) refl (goes refl (goes refl (goes refl (ends refl))));

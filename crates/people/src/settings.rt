@@ -3,9 +3,12 @@ use crate::words::say;
 use crate::words::say_hex;
 use crate::words::say_id;
 use crate::words::say_number;
+use claims::VIDEO_FIRST;
+use claims::VIDEO_LAST;
 use claims::base_of;
 use claims::memory_space_enabled;
 use claims::upper_of;
+use claims::vga_enabled;
 use ids::PortNo;
 use ids::Rid;
 use registers::Bridge;
@@ -123,4 +126,7 @@ pub fn say_windows(b: Bridge) {
         8,
     );
     say_prefetchable(b);
+    if vga_enabled(b) {
+        say_window(b"video", VIDEO_FIRST, VIDEO_LAST, 8);
+    }
 }
