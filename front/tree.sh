@@ -5,6 +5,7 @@
 #
 #   00:01.0-[01-04]            own ID, and the buses of the pair that it claims; [] where the pair claims none
 #   memory e0000000-efffffff   a window; `memory space off' where Memory Space Enable is not set
+#   video 000a0000-000bffff    the video range, where VGA Enable is set
 #   MEM Low vector 2 of 256 set, from e0000000 by 1 MiB
 #
 # Without FILE, or with `-', the picture is read from standard input.

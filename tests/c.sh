@@ -54,6 +54,8 @@ example() {
     local own='number 11, an ID has two holders at one place, or a port claims its own ID'
     local stray='number 13, a port holds an ID that its parent does not claim'
     shared="$shared/port 2 holds it by low/port 3 holds it by low"
+    local video='number 12, an address has two holders at one place; port 2 and port 3, least target a0000'
+    video="$video/port 2 holds it by mem pref low vga/port 3 holds it by vga"
     prints 0 'check: clear/walk: device port 2 Function 5, crossing 0 1 2/' "$@" samples/switch.picture config host 0305
     prints 0 'check: clear/walk: host, crossing nothing/' "$@" samples/switch.picture address host e0000000
     prints 0 'check: clear/' "$@" samples/switch.picture
@@ -61,6 +63,7 @@ example() {
     prints 1 "check: $shared/walk: host, crossing nothing/" "$@" samples/shared-granule.picture address host 0
     prints 1 "check: $shared/walk: doubled port 2 and port 3, crossing 0 1/" \
         "$@" samples/shared-granule.picture address host e0500000
+    prints 1 "check: $video/" "$@" samples/four-decoders.picture
     prints 1 "check: $own; port 0 and port 0, least target 108/port 0 holds it by own bus/" "$@" samples/own-id-claimed.picture
     prints 1 "check: $stray; port 1, least target 200/port 1 holds it by bus/" "$@" samples/stray-id.picture
     prints 1 "check: $stray; port 1, least target 8/port 1 holds it by own/" \

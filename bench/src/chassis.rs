@@ -27,12 +27,13 @@ pub struct Decoders {
     pub pref: bool,
     pub low: bool,
     pub high: bool,
+    pub vga: bool,
 }
 
 impl Decoders {
     // Whether at least one decoder claims the target.
     pub fn at_least_one(self) -> bool {
-        self.bus | self.rid | self.mem | self.pref | self.low | self.high
+        self.bus | self.rid | self.mem | self.pref | self.low | self.high | self.vga
     }
 }
 
@@ -71,6 +72,13 @@ pub enum Whereabouts {
 pub enum Step {
     Stop(End),
     Cross(PortNo, Whereabouts),
+}
+
+// What the check looks for at a target: 11 and 12, two ports that hold it; 13 and 14, a port that strays.
+#[derive(Clone, Copy)]
+pub enum Fault {
+    Shared,
+    Stray,
 }
 
 // What the check finds: numbers 11 and 12 with the least target and the first pair, 13 and 14 with the least target and

@@ -29,6 +29,7 @@ fn bits(by: Decoders) -> u32 {
         + ((by.pref as u32) << 3)
         + ((by.low as u32) << 4)
         + ((by.high as u32) << 5)
+        + ((by.vga as u32) << 6)
 }
 
 #[inline(never)]

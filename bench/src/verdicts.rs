@@ -3,7 +3,7 @@ use crate::chassis::Verdict;
 use crate::culprits::first_pair;
 use crate::culprits::lowest;
 use crate::culprits::lowest_stray;
-use crate::culprits::Fault;
+use crate::culprits::PortFault;
 use crate::ids::Rid;
 use crate::ids::Space;
 use crate::ids::Target;
@@ -35,7 +35,7 @@ fn stray_at(s: &[u8], n: u8, t: Target) -> Verdict {
 
 // Number 15, or none.
 fn from_15(s: &[u8], n: u8) -> Verdict {
-    match lowest(s, n, Fault::Lost) {
+    match lowest(s, n, PortFault::Lost) {
         Culprit::Port(p) => Verdict::Lost(p),
         Culprit::Nobody => Verdict::Clear,
     }

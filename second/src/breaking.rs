@@ -3,8 +3,10 @@
 use crate::check::candidate_addresses;
 use crate::draft::{Draft, VectorShape, Which, ALL_VECTORS};
 use crate::judge::Judge;
-use crate::picture::{Picture, MIB};
+use crate::picture::{Picture, FOUR_GIB, MIB};
 use crate::random::Random;
+use crate::video::{claim_the_first_mib, drop_the_first_mib};
+use crate::widen::{set_entry, MIB_OF_A_HIGH_GRANULE};
 
 /// One change to a draft whose picture reads.
 type Change = fn(&mut Random, &Picture, &mut Draft);
@@ -26,6 +28,11 @@ fn changes_for(number: u8) -> &'static [Change] {
             shift_vector,
             claim_around_4_gib,
             claim_the_top,
+            high_of_another,
+            high_of_another,
+            video_of_another,
+            first_mib_against_video,
+            first_mib_against_video,
         ],
         13 => &[
             clear_rid_entry_above,
@@ -47,6 +54,10 @@ fn changes_for(number: u8) -> &'static [Change] {
             disable_vector,
             claim_around_4_gib,
             claim_the_top,
+            claim_the_top,
+            video_below_none,
+            video_without_memory_space_above,
+            first_mib_below_video,
         ],
         _ => &[move_secondary_start, one_device_only, turn_ari, neighbour_own_id, other_claimed_own_id],
     }
@@ -81,6 +92,25 @@ pub fn break_once(random: &mut Random, sound: &Draft) -> Draft {
             break;
         }
     }
+    broken
+}
+
+/// Changes that let ports meet in the video range, or lose it above.
+const VIDEO_CHANGES: [Change; 6] = [
+    video_of_another,
+    first_mib_against_video,
+    first_mib_against_video,
+    video_below_none,
+    video_without_memory_space_above,
+    first_mib_below_video,
+];
+
+/// Makes one change around the video range, whatever comes of it.
+pub fn break_at_video(random: &mut Random, sound: &Draft) -> Draft {
+    let judge = Judge::new(&sound.bytes());
+    let Ok(picture) = judge.reading() else { return sound.clone() };
+    let mut broken = sound.clone();
+    random.pick(&VIDEO_CHANGES)(random, picture, &mut broken);
     broken
 }
 
@@ -266,9 +296,9 @@ fn neighbour_own_id(random: &mut Random, picture: &Picture, draft: &mut Draft) {
     registers.own_id ^= random.pick(&[1, 8, 0x40, 0xF8, 0x100]);
 }
 
-/// An address that a port claims, if it claims any.
-fn claimed_address(random: &mut Random, picture: &Picture, port: usize) -> Option<u64> {
-    let claims = |address: &u64| picture.ports[port].claims_address(*address);
+/// An address from this one on that a port claims, if it claims any.
+fn claimed_address(random: &mut Random, picture: &Picture, port: usize, from: u64) -> Option<u64> {
+    let claims = |address: &u64| *address >= from && picture.ports[port].claims_address(*address);
     let claimed: Vec<u64> = candidate_addresses(picture).into_iter().filter(claims).collect();
     (!claimed.is_empty()).then(|| random.pick(&claimed))
 }
@@ -276,7 +306,7 @@ fn claimed_address(random: &mut Random, picture: &Picture, port: usize) -> Optio
 /// Prefetchable becomes one MiB that another port at the place claims.
 fn memory_of_another(random: &mut Random, picture: &Picture, draft: &mut Draft) {
     let (port, other) = two_siblings(random, picture);
-    if let Some(address) = claimed_address(random, picture, other) {
+    if let Some(address) = claimed_address(random, picture, other, 0) {
         let mib = address / MIB;
         draft.ports[port] = draft.ports[port].clone().prefetchable(mib, mib);
     }
@@ -285,9 +315,21 @@ fn memory_of_another(random: &mut Random, picture: &Picture, draft: &mut Draft) 
 /// Memory becomes one MiB that another port at the place claims, if that is below 4 GiB.
 fn low_of_another(random: &mut Random, picture: &Picture, draft: &mut Draft) {
     let (port, other) = two_siblings(random, picture);
-    let mib = claimed_address(random, picture, other).map(|address| address / MIB);
+    let mib = claimed_address(random, picture, other, 0).map(|address| address / MIB);
     if let Some(mib @ 0..=0xFFF) = mib {
         draft.ports[port] = draft.ports[port].clone().memory(mib as u16, mib as u16);
+    }
+}
+
+/// The High vector, and sometimes Prefetchable, claim something that another port at the place claims.
+fn high_of_another(random: &mut Random, picture: &Picture, draft: &mut Draft) {
+    let (port, other) = two_siblings(random, picture);
+    let Some(address) = claimed_address(random, picture, other, FOUR_GIB) else { return };
+    let mib = address / MIB;
+    set_entry(&mut draft.ports[port], Which::High, mib / MIB_OF_A_HIGH_GRANULE);
+    draft.ports[port].set_memory_space(true);
+    if random.percent(25) {
+        draft.ports[port] = draft.ports[port].clone().prefetchable(mib, mib);
     }
 }
 
@@ -342,6 +384,55 @@ fn claim_the_top(random: &mut Random, picture: &Picture, draft: &mut Draft) {
 /// Memory Space Enable is cleared.
 fn memory_space_off(random: &mut Random, picture: &Picture, draft: &mut Draft) {
     draft.ports[any_parent(random, picture)].set_memory_space(false);
+}
+
+/// Two ports at a place have VGA Enable.
+fn video_of_another(random: &mut Random, picture: &Picture, draft: &mut Draft) {
+    let (port, other) = two_siblings(random, picture);
+    for port in [port, other] {
+        draft.ports[port] = draft.ports[port].clone().video();
+    }
+}
+
+/// One port at a place has VGA Enable, and another claims the first MiB, with VGA Enable or without.
+fn first_mib_against_video(random: &mut Random, picture: &Picture, draft: &mut Draft) {
+    let (port, other) = two_siblings(random, picture);
+    draft.ports[port] = draft.ports[port].clone().video();
+    drop_the_first_mib(&mut draft.ports[port]);
+    draft.ports[other].set_vga(random.percent(50));
+    claim_the_first_mib(random, &mut draft.ports[other]);
+}
+
+/// A port with children, and one of these children; one port twice if none has any.
+fn parent_and_child(random: &mut Random, picture: &Picture) -> (usize, usize) {
+    let parent = any_parent(random, picture);
+    let children = picture.ports_at(Some(parent));
+    let child = if children.is_empty() { parent } else { random.pick(&children) };
+    (parent, child)
+}
+
+/// A port has VGA Enable, and its parent has neither it nor the first MiB.
+fn video_below_none(random: &mut Random, picture: &Picture, draft: &mut Draft) {
+    let (parent, child) = parent_and_child(random, picture);
+    draft.ports[parent].set_vga(false);
+    drop_the_first_mib(&mut draft.ports[parent]);
+    draft.ports[child] = draft.ports[child].clone().video();
+}
+
+/// A port and its parent have VGA Enable, the parent without Memory Space Enable.
+fn video_without_memory_space_above(random: &mut Random, picture: &Picture, draft: &mut Draft) {
+    let (parent, child) = parent_and_child(random, picture);
+    draft.ports[child] = draft.ports[child].clone().video();
+    draft.ports[parent] = draft.ports[parent].clone().video().with_memory_space(false);
+}
+
+/// A port has VGA Enable and claims the first MiB; its parent has VGA Enable alone.
+fn first_mib_below_video(random: &mut Random, picture: &Picture, draft: &mut Draft) {
+    let (parent, child) = parent_and_child(random, picture);
+    draft.ports[parent] = draft.ports[parent].clone().video();
+    drop_the_first_mib(&mut draft.ports[parent]);
+    draft.ports[child] = draft.ports[child].clone().video();
+    claim_the_first_mib(random, &mut draft.ports[child]);
 }
 
 /// The Secondary Start points elsewhere.

@@ -1,11 +1,12 @@
 //! Hand-written cases with the answers that the papers give: the one-port picture and C1 to C12 of
 //! the paper, the numbered decisions on open points, and the cases that a first build gets wrong. Those
-//! of decoders by name and of trials are in files of their own.
+//! of decoders by name, of trials and of the video range are in files of their own.
 
 use crate::batch::Record;
 use crate::claim_cases::claim_cases;
 use crate::draft::{Draft, DraftPort, VectorShape, Which, DOWNSTREAM, NO_PARENT, ROOT, UPSTREAM};
 use crate::trial_cases::{cases_before_a_patch, trial_cases};
+use crate::vga_cases::vga_cases;
 use Which::{High, Low, Rid};
 
 /// What a claim writes for each decoder; for several of them their sum, and for none 0.
@@ -16,6 +17,7 @@ pub const MEM: u32 = 4;
 pub const PREF: u32 = 8;
 pub const LOW: u32 = 16;
 pub const HIGH: u32 = 32;
+pub const VGA: u32 = 64;
 
 /// What a conversion writes.
 pub const NOT_CLAIMED: u32 = 0;
@@ -135,8 +137,8 @@ pub fn downstream_3_to_5() -> DraftPort {
     down(1, 0x0200).buses(3, 5)
 }
 
-/// Ports in one chain: root, upstream, downstream, upstream and so on, all claiming all memory.
-fn chain(first_port: u8, length: u8, base_mib: u16) -> Vec<DraftPort> {
+/// Ports in one chain: root, upstream, downstream, upstream and so on, all claiming one range of memory.
+pub fn chain(first_port: u8, length: u8, base_mib: u16) -> Vec<DraftPort> {
     (0..length)
         .map(|step| {
             let parent = (first_port + step).wrapping_sub(1);
@@ -163,6 +165,7 @@ pub fn all_cases() -> Vec<Case> {
         scan_cases(),
         claim_cases(),
         trial_cases(),
+        vga_cases(),
     ]
     .into_iter()
     .flatten()
@@ -469,8 +472,8 @@ fn doubled_below_a_switch() -> Vec<DraftPort> {
 /// Open points 12 to 16 and 20 to 22: registers.
 fn register_cases() -> Vec<Case> {
     let ari = || root(0).with_ari();
-    let mut vga = root(0).with_memory_space(true);
-    vga.bridge_control = 0xFFFF;
+    let mut no_vga = root(0).with_memory_space(true);
+    no_vga.bridge_control = 0xFFF7;
     let mut reserved = root(0);
     reserved.capabilities = 0xF8F8_F800 | 0x0707_0700;
     reserved.rid_control_1 = 0xFFFF_FFFE;
@@ -507,7 +510,11 @@ fn register_cases() -> Vec<Case> {
                 walks(2, 255, 0x01F9, [1, 0, 255, 0xF9], &[0]),
             ],
         ),
-        case("decision 13: VGA Enable is not used", vec![vga], vec![claims_address(0, 0xA_0000, NONE)]),
+        case(
+            "decision 13: all of Bridge Control but VGA Enable",
+            vec![no_vga],
+            vec![reports("ports 1/clear"), claims_address(0, 0xA_0000, NONE)],
+        ),
         case(
             "decision 14: entries past the space",
             vec![edge_vectors, root(1).prefetchable(4096, 4096)],

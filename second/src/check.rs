@@ -1,7 +1,7 @@
 //! The check of a picture that reads: numbers 11 to 15.
 
 use crate::claims::Conversion;
-use crate::picture::{AddressRange, Picture, Port, Refusal, Target, Vector, FOUR_GIB};
+use crate::picture::{AddressRange, Picture, Port, Refusal, Target, Vector, FOUR_GIB, VIDEO_RANGE};
 
 /// A target with the ports that claim it and the ports that hold it, each lowest first.
 struct Seen {
@@ -42,11 +42,11 @@ fn see(picture: &Picture, target: Target) -> Seen {
 /// Addresses, ascending, such that the least address with any property that rests only on which
 /// ports claim it is among them.
 ///
-/// What a port claims is made of pieces: its two ranges, each set Low granule cut off at 4 GiB, and
-/// each set High granule from 4 GiB up. The first address of every piece and the first one after it
-/// are here, and so is 0. Take any address x, and the last candidate c not above x (there is one, as
-/// 0 is here). No piece begins or ends between them, that is, begins after c and not after x, or ends
-/// at c or later but before x; so c lies in the same pieces as x, and the same ports claim it. If x
+/// What a port claims is made of pieces: its two windows and its video range, each set Low granule cut
+/// off at 4 GiB, and each set High granule from 4 GiB up. The first address of every piece and the first
+/// one after it are here, and so is 0. Take any address x, and the last candidate c not above x (there is
+/// one, as 0 is here). No piece begins or ends between them, that is, begins after c and not after x, or
+/// ends at c or later but before x; so c lies in the same pieces as x, and the same ports claim it. If x
 /// has the property, c has it too; so the least address that has it is a candidate.
 pub fn candidate_addresses(picture: &Picture) -> Vec<u64> {
     let mut candidates = vec![0, FOUR_GIB];
@@ -62,6 +62,9 @@ pub fn edges_of(port: &Port) -> Vec<u64> {
     if port.memory_space {
         push_range_edges(&mut edges, port.memory);
         push_range_edges(&mut edges, port.prefetchable);
+        if port.vga_enable {
+            push_range_edges(&mut edges, VIDEO_RANGE);
+        }
         for vector in [&port.low, &port.high].into_iter().flatten() {
             push_granule_edges(&mut edges, vector);
         }

@@ -2,6 +2,7 @@
 //! meet, at own IDs, and with arguments that are refused.
 
 use crate::batch::Record;
+use crate::cases::VGA;
 use crate::check::edges_of;
 use crate::generate::{some_target, LONG_IDS};
 use crate::picture::{Picture, Port, Target, FOUR_GIB};
@@ -22,8 +23,10 @@ struct Meeting {
 pub fn claim_calls(random: &mut Random, picture: &Picture) -> Vec<Record> {
     let meetings = meetings(picture);
     let mut calls = Vec::new();
-    for _ in 0..2 {
-        if let Some(Meeting { port, target, .. }) = some_meeting(random, &meetings) {
+    let of_video: Vec<Meeting> =
+        meetings.iter().copied().filter(|meeting| meeting.decoders & VGA != 0).collect();
+    for meetings in [&meetings, &meetings, &of_video, &of_video] {
+        if let Some(Meeting { port, target, .. }) = some_meeting(random, meetings) {
             let (target_kind, value) = kind_and_value(target);
             calls.push(Record::Claim { port, target_kind, target: value });
             calls.push(holders_call(target));

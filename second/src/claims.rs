@@ -1,6 +1,6 @@
 //! What a port claims and holds, by which decoders, and how it converts configuration requests.
 
-use crate::picture::{Kind, Named, Picture, Port, Target, Vector, FOUR_GIB};
+use crate::picture::{Kind, Named, Picture, Port, Target, Vector, FOUR_GIB, VIDEO_RANGE};
 
 /// The bus of an ID: its upper 8 bits.
 pub fn bus(id: u16) -> u8 {
@@ -47,20 +47,21 @@ pub struct Decoders {
     pub pref: bool,
     pub low: bool,
     pub high: bool,
+    pub vga: bool,
 }
 
 impl Decoders {
     /// Does at least one of them claim the target?
     pub fn any(&self) -> bool {
-        self.bus || self.rid || self.mem || self.pref || self.low || self.high
+        self.bus || self.rid || self.mem || self.pref || self.low || self.high || self.vga
     }
 
-    /// The value that the claim call writes for them: bit 0 bus, 1 rid, 2 mem, 3 pref, 4 low, 5 high.
+    /// The value that the claim call writes for them: bit 0 bus, 1 rid, 2 mem, 3 pref, 4 low, 5 high, 6 vga.
     pub fn bits(&self) -> u32 {
         let of_ids = self.bus as u32 | (self.rid as u32) << 1;
         let windows = (self.mem as u32) << 2 | (self.pref as u32) << 3;
         let vectors = (self.low as u32) << 4 | (self.high as u32) << 5;
-        of_ids | windows | vectors
+        of_ids | windows | vectors | (self.vga as u32) << 6
     }
 }
 
@@ -73,9 +74,9 @@ pub struct Holding {
 
 impl Holding {
     /// Of a text for own and one for each decoder, in their order, those that apply.
-    pub fn those_of<'a>(&self, texts: [&'a str; 7]) -> Vec<&'a str> {
-        let Decoders { bus, rid, mem, pref, low, high } = self.decoders;
-        let applies = [self.own, bus, rid, mem, pref, low, high];
+    pub fn those_of<'a>(&self, texts: [&'a str; 8]) -> Vec<&'a str> {
+        let Decoders { bus, rid, mem, pref, low, high, vga } = self.decoders;
+        let applies = [self.own, bus, rid, mem, pref, low, high, vga];
         texts.into_iter().zip(applies).filter(|(_, applies)| *applies).map(|(text, _)| text).collect()
     }
 }
@@ -93,7 +94,7 @@ impl Port {
         Decoders { bus: self.bus_pair_claims(id), rid, ..Decoders::default() }
     }
 
-    /// The decoders that claim the address: the other four can, with Memory Space Enable.
+    /// The decoders that claim the address: the other five can, with Memory Space Enable.
     fn decoders_of_address(&self, address: u64) -> Decoders {
         if !self.memory_space {
             return Decoders::default();
@@ -104,6 +105,7 @@ impl Port {
             pref: self.prefetchable.contains(address),
             low: address < FOUR_GIB && claims(&self.low),
             high: address >= FOUR_GIB && claims(&self.high),
+            vga: self.vga_enable && VIDEO_RANGE.contains(address),
             ..Decoders::default()
         }
     }

@@ -7,6 +7,7 @@ pub const NO_PARENT: u8 = 255;
 
 const MEMORY_SPACE_ENABLE: u16 = 1 << 1;
 const ARI_FORWARDING_ENABLE: u16 = 1 << 5;
+const VGA_ENABLE: u16 = 1 << 3;
 
 /// Which of the three vectors.
 #[derive(Clone, Copy, Debug, PartialEq, Eq)]
@@ -106,6 +107,18 @@ impl DraftPort {
         self.with_memory_space(true)
     }
 
+    /// Sets VGA Enable and Memory Space Enable.
+    pub fn video(mut self) -> DraftPort {
+        self.set_vga(true);
+        self.with_memory_space(true)
+    }
+
+    /// Sets or clears VGA Enable.
+    pub fn set_vga(&mut self, enabled: bool) {
+        self.bridge_control &= !VGA_ENABLE;
+        self.bridge_control |= if enabled { VGA_ENABLE } else { 0 };
+    }
+
     /// Sets or clears Memory Space Enable.
     pub fn with_memory_space(mut self, enabled: bool) -> DraftPort {
         self.set_memory_space(enabled);
@@ -116,6 +129,11 @@ impl DraftPort {
     pub fn set_memory_space(&mut self, enabled: bool) {
         self.command &= !MEMORY_SPACE_ENABLE;
         self.command |= if enabled { MEMORY_SPACE_ENABLE } else { 0 };
+    }
+
+    /// Is Memory Space Enable set?
+    pub fn has_memory_space(&self) -> bool {
+        self.command & MEMORY_SPACE_ENABLE != 0
     }
 
     /// Sets ARI Forwarding Enable.

@@ -32,7 +32,7 @@ const CLEAR: &str =
     ": no ID or address has two holders at one place, and no port holds what its parent does not claim";
 
 /// How a port holds a target: as its own ID, and through each decoder.
-const MANNERS: [&str; 7] = [
+const MANNERS: [&str; 8] = [
     " as its own ID",
     " through its bus range",
     " through its RID vector",
@@ -40,6 +40,7 @@ const MANNERS: [&str; 7] = [
     " through its prefetchable window",
     " through its MEM Low vector",
     " through its MEM High vector",
+    " through its video range",
 ];
 
 /// What the report program prints with `explain`.

@@ -1,10 +1,11 @@
 //! Batches of random pictures, each with a report, a check and a choice of further calls.
 
 use crate::batch::Record;
-use crate::breaking::{break_once, shake};
+use crate::breaking::{break_at_video, break_once, shake};
 use crate::cases::all_cases;
 use crate::claim_calls::{claim_calls, claim_calls_on_nothing, holders_call};
-use crate::draft::{Draft, DraftPort, NO_PARENT, ROOT, UPSTREAM};
+use crate::claims::{bus, unit};
+use crate::draft::{Draft, DraftPort, Which, NO_PARENT, ROOT, UPSTREAM};
 use crate::judge::Judge;
 use crate::picture::{read, Picture, Port, Refusal, Target, Vector, FOUR_GIB};
 use crate::random::Random;
@@ -13,9 +14,10 @@ use crate::sound::{fill, Taste};
 use crate::spoil::{
     chain_at_the_edge, misplace, reading_edges, scatter_own_ids, scramble_settings, scramble_starts, spoil,
 };
-use crate::topology::{grow, port_count, ALL_FORMS};
+use crate::topology::{grow, port_count, Form, ALL_FORMS};
 use crate::trials::write_trials;
-use crate::widen::widen;
+use crate::video::{crowd_the_first_mib, has_video, video_edge};
+use crate::widen::{set_entry, widen};
 use crate::wild::{add_noise, make_memory_wild, wild};
 
 /// Numbers that are no start anywhere; some would be one if they were cut to 8 or 16 bits.
@@ -27,8 +29,9 @@ pub const BAD_KINDS: [u32; 5] = [3, 255, 256, 258, u32::MAX];
 /// IDs over FFFFh, some of which would be good IDs if they were cut.
 pub const LONG_IDS: [u64; 4] = [0x1_0000, 0x1_0308, 0x1_0000_0000, u64::MAX];
 
-/// Numbers in turn, those whose sentences have many forms more than once.
-const TURNS: [u8; 15] = [1, 6, 2, 8, 3, 9, 6, 4, 5, 8, 7, 6, 9, 10, 15];
+/// Numbers in turn, those whose sentences have many forms more than once; 11 is for own IDs that are claimed,
+/// 12 for the video range.
+const TURNS: [u8; 17] = [1, 6, 2, 8, 3, 9, 6, 4, 11, 12, 5, 8, 7, 6, 9, 10, 15];
 
 /// A batch of so many pictures; the same seed gives the same batch.
 pub fn generate(seed: u64, count: u64) -> Vec<u8> {
@@ -60,6 +63,8 @@ pub fn pictures(seed: u64, count: u64) -> impl Iterator<Item = Vec<u8>> {
         let random = &mut random_of(seed, index);
         match (index % 2, TURNS[index as usize / 2 % TURNS.len()]) {
             (0, _) => random_picture(random),
+            (_, 11) => twice_owned_picture(random),
+            (_, 12) => video_picture(random),
             (_, 15) => unreached_picture(random),
             (_, number) => refused_picture(random, number),
         }
@@ -88,6 +93,26 @@ pub fn refused_picture(random: &mut Random, number: u8) -> Vec<u8> {
         }
     }
     picture
+}
+
+/// Number 11: two root ports with one own ID, which the second claims by its RID vector, and sometimes by its
+/// bus pair too.
+fn twice_owned_picture(random: &mut Random) -> Vec<u8> {
+    let own_id = random.bits() as u16;
+    let first = DraftPort::silent(ROOT, NO_PARENT, own_id);
+    let mut second = first.clone();
+    set_entry(&mut second, Which::Rid, unit(own_id) as u64);
+    if random.percent(30) {
+        second = second.buses(bus(own_id), bus(own_id));
+    }
+    Draft::of(vec![first, second]).bytes()
+}
+
+/// Mostly number 12 or 14: a small picture that is sound but around the video range.
+fn video_picture(random: &mut Random) -> Vec<u8> {
+    let ports = grow(random, Form::Tangled, 5);
+    let sound = fill(random, ports, &Taste::plain());
+    break_at_video(random, &sound).bytes()
 }
 
 /// Number 15: a switch on the Secondary bus of its root port, with another device number than 0; seldom on
@@ -126,9 +151,9 @@ pub fn hand_written() -> Vec<u8> {
     batch
 }
 
-/// A picture of one of the families: spoiled, wild, sound, broken once, wild in memory, or shaken;
-/// seldom a chain at the edge, or a full picture. Half of those that the check may refuse for a target have
-/// more decoders there.
+/// A picture of one of the families: spoiled, wild, sound, broken once, wild in memory, crowded in the
+/// first MiB, broken at the video range, or shaken; seldom a chain at the edge, or a full picture. Half of
+/// those that the check may refuse for a target have more decoders there.
 fn random_picture(random: &mut Random) -> Vec<u8> {
     if random.percent(2) {
         return chain_at_the_edge(random);
@@ -136,12 +161,14 @@ fn random_picture(random: &mut Random) -> Vec<u8> {
     if random.percent(1) {
         return full_picture(random);
     }
-    let family = random.below(20);
+    let family = random.below(22);
     let mut draft = if family < 5 { wild(random) } else { sound_draft(random) };
     match family {
         0..=9 => {}
         10..=15 => draft = break_once(random, &draft),
         16 | 17 => make_memory_wild(random, &mut draft),
+        18 => crowd_the_first_mib(random, &mut draft),
+        19 => draft = break_at_video(random, &draft),
         _ => {
             let times = random.between(2, 8);
             draft = shake(random, &draft, times);
@@ -245,8 +272,12 @@ pub fn walk_call(random: &mut Random, picture: &Picture, kind: u32) -> Record {
     Record::Walk { kind, start, target: some_target(random, picture, kind) }
 }
 
-/// An address for kind 1, else an ID, around the edges of a port.
+/// An address for kind 1, else an ID, around the edges of a port; often one around the video range, if a port
+/// has VGA Enable.
 pub fn some_target(random: &mut Random, picture: &Picture, kind: u32) -> u64 {
+    if kind == 1 && has_video(picture) && random.percent(30) {
+        return video_edge(random);
+    }
     let aim = some_aim(random, picture);
     if kind == 1 {
         address_around(random, aim)
@@ -337,6 +368,9 @@ fn id_around(random: &mut Random, port: &Port) -> u64 {
 
 /// An address at or around an edge of the port, or something claimed, or an edge of the space.
 fn address_around(random: &mut Random, port: &Port) -> u64 {
+    if port.vga_enable && random.percent(30) {
+        return video_edge(random);
+    }
     let edge = match random.below(9) {
         0 => port.memory.base,
         1 => port.memory.last,

@@ -10,7 +10,7 @@ use crate::picture::{read, Named, Picture, Refusal, Target};
 use crate::walk::{walk_configuration, walk_packet, End, Walk};
 
 /// The words for why a port holds a target: for its own ID, and for each decoder.
-const WORDS: [&str; 7] = [" own", " bus", " rid", " mem", " pref", " low", " high"];
+const WORDS: [&str; 8] = [" own", " bus", " rid", " mem", " pref", " low", " high", " vga"];
 
 /// A lent picture, read once and checked at most once.
 pub struct Judge {

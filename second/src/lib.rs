@@ -30,6 +30,8 @@ pub mod topology;
 pub mod tree;
 pub mod trial_cases;
 pub mod trials;
+pub mod vga_cases;
+pub mod video;
 pub mod walk;
 pub mod widen;
 pub mod wild;

@@ -1,6 +1,7 @@
 //! Pairs whose patch reads, one way for each number that the check gives then; and pairs whose picture
 //! does not read, whatever the patch.
 
+use crate::claims::bus;
 use crate::draft::{Draft, DraftPort, VectorShape, Which, NO_PARENT, ROOT, UPSTREAM};
 use crate::generate::refused_picture;
 use crate::judge::Judge;
@@ -12,12 +13,14 @@ use crate::picture::Refusal;
 use crate::random::Random;
 
 /// Clear, then 11 to 15, then 1 to 10.
-pub const ACCEPTED: [Turn; 10] = [
+pub const ACCEPTED: [Turn; 12] = [
     clear,
     clear_again,
     shared_id,
     claimed_own_id,
     shared_address,
+    shared_high,
+    shared_video,
     lost_id,
     lost_address,
     own_id_passed_on,
@@ -77,6 +80,25 @@ fn shared_address(random: &mut Random) -> Pair {
     giving(random, 12, small_picture)
 }
 
+/// Number 12: by its new vector a port claims 256 MiB above 4 GiB that another claims by its window.
+fn shared_high(random: &mut Random) -> Pair {
+    let (own_id, entry) = (random.below(0x8000) as u16, random.below(256) as u16);
+    let port = DraftPort::silent(ROOT, NO_PARENT, own_id).with_memory_space(true);
+    let first_mib = 4_096 + 256 * entry as u64;
+    let other = DraftPort::silent(ROOT, NO_PARENT, 0x8000 + own_id).prefetchable(first_mib, first_mib + 255);
+    let ports = vec![with_vector(port, Which::High, 16), other];
+    Pair { picture: Draft::of(ports).bytes(), patch: setting_entry(entry) }
+}
+
+/// Number 12: by its new vector a port claims the first MiB, where another has the video range.
+fn shared_video(random: &mut Random) -> Pair {
+    let own_id = random.below(0x8000) as u16;
+    let port = DraftPort::silent(ROOT, NO_PARENT, own_id).with_memory_space(true);
+    let card = DraftPort::silent(ROOT, NO_PARENT, 0x8000 + own_id).video();
+    let ports = vec![with_vector(port, Which::Low, 0), card];
+    Pair { picture: Draft::of(ports).bytes(), patch: setting_entry(0) }
+}
+
 /// Number 13: an ID that the parent does not claim.
 fn lost_id(random: &mut Random) -> Pair {
     giving(random, 13, small_sound_picture)
@@ -89,22 +111,27 @@ fn lost_address(random: &mut Random) -> Pair {
 
 /// The port with a clear RID vector of 256 units from this one on.
 fn with_rid_vector(port: DraftPort, first_unit: u16) -> DraftPort {
-    let shape = VectorShape { size_code: 0, granularity_code: 0, start: first_unit as u64 };
-    port.vector(Which::Rid, shape, &[])
+    with_vector(port, Which::Rid, first_unit as u64)
 }
 
-/// The patch that sets one entry of port 0, which has a RID vector of 256 entries and no other.
+/// The port with a clear vector of 256 smallest granules.
+fn with_vector(port: DraftPort, which: Which, start: u64) -> DraftPort {
+    port.vector(which, VectorShape { size_code: 0, granularity_code: 0, start }, &[])
+}
+
+/// The patch that sets one entry of port 0, which has one vector, of 256 entries.
 fn setting_entry(entry: u16) -> Vec<u8> {
     let mut bytes = vec![0; 32];
     bytes[entry as usize / 8] = 1 << (entry % 8);
     PatchDraft::of(&[NewVectors { port: 0, bytes }]).bytes()
 }
 
-/// Number 11: a port claims its own ID by its new vector.
+/// Number 11: a port claims its own ID by its bus pair, and by its new vector too.
 fn claimed_own_id(random: &mut Random) -> Pair {
-    let (first_unit, entry) = (random.below(7_000) as u16, random.below(256) as u16);
+    let (first_unit, entry) = (random.between(32, 7_000) as u16, random.below(256) as u16);
     let own_id = 8 * (first_unit + entry) + random.below(8) as u16;
-    let port = with_rid_vector(DraftPort::silent(ROOT, NO_PARENT, own_id), first_unit);
+    let port = DraftPort::silent(ROOT, NO_PARENT, own_id).buses(bus(own_id), bus(own_id));
+    let port = with_rid_vector(port, first_unit);
     Pair { picture: Draft::of(vec![port]).bytes(), patch: setting_entry(entry) }
 }
 

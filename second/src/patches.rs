@@ -1,7 +1,7 @@
 //! Random new vectors for a picture that reads.
 
 use crate::patch_draft::NewVectors;
-use crate::picture::{records_of, Picture, Port, Refusal, Target, Vector};
+use crate::picture::{records_of, Picture, Port, Refusal, Target, Vector, VIDEO_RANGE};
 use crate::random::Random;
 
 /// What is known of a picture that reads: its bytes, and its ports.
@@ -97,6 +97,7 @@ fn something_held(random: &mut Random, port: &Port) -> Target {
         0 => Target::Id(port.own_id),
         1 => Target::Id((port.secondary as u16) << 8),
         2 | 3 => Target::Id(first_target(random, port.rid.as_ref()) as u16),
+        4 if port.vga_enable => Target::Address(VIDEO_RANGE.base),
         4 => Target::Address(random.pick(&[port.memory.base, port.prefetchable.base])),
         5 => Target::Address(first_target(random, port.low.as_ref())),
         _ => Target::Address(first_target(random, port.high.as_ref())),

@@ -5,6 +5,9 @@ use crate::claims::Holding;
 pub const MIB: u64 = 1 << 20;
 pub const FOUR_GIB: u64 = 1 << 32;
 
+/// The addresses that a port claims with VGA Enable and Memory Space Enable.
+pub const VIDEO_RANGE: AddressRange = AddressRange { base: 0xA_0000, last: 0xB_FFFF };
+
 /// An ID or an address: what claims, walks and the check speak of.
 #[derive(Clone, Copy, Debug, PartialEq, Eq)]
 pub enum Target {
@@ -106,6 +109,8 @@ pub struct Port {
     pub prefetchable_is_64: bool,
     /// ARI Forwarding Enable, at a root or downstream port (it means nothing at an upstream port).
     pub ari: bool,
+    /// VGA Enable, bit 3 of Bridge Control; no other bit of that register counts.
+    pub vga_enable: bool,
     pub num_sec_dev: u16,
     /// Secondary Start, a unit.
     pub secondary_start: u16,
@@ -542,6 +547,7 @@ fn read_port(record: &Record, picture: &[u8]) -> Port {
         prefetchable: record.prefetchable(),
         prefetchable_is_64: half(record.bytes, 12) & 0xF == 1,
         ari: record.ari(),
+        vga_enable: half(record.bytes, 26) >> 3 & 1 == 1,
         num_sec_dev: bits(record.capabilities(), 7, 3) as u16,
         secondary_start: bits(word(record.bytes, 36), 15, 3) as u16,
         rid,

@@ -19,6 +19,8 @@ pub struct Taste {
     pub registers: u64,
     pub low_vector: u64,
     pub high_vector: u64,
+    /// Chance that what a place has of the video range is given to a port there.
+    pub video: u64,
     pub ari: u64,
     /// Chance that an entry is set where it may be, at ports without children.
     pub density: u64,
@@ -41,6 +43,7 @@ impl Taste {
             registers: random.pick(&chances),
             low_vector: random.pick(&chances),
             high_vector: random.pick(&chances),
+            video: random.pick(&chances),
             ari: random.pick(&chances),
             density: random.pick(&[5, 50, 100]),
             size_code: random.pick(&[0, 0, 1, 2, 5]),
@@ -59,6 +62,7 @@ impl Taste {
             registers: 100,
             low_vector: 0,
             high_vector: 0,
+            video: 0,
             ari: 0,
             density: 100,
             size_code: 0,
@@ -77,6 +81,8 @@ struct Filling<'a> {
     ports: Vec<DraftPort>,
     ids: Vec<Pool>,
     memory: Vec<Pool>,
+    /// Which ports claim the video range by VGA Enable.
+    video: Vec<bool>,
     bytes_left: usize,
 }
 
@@ -100,7 +106,8 @@ fn try_to_fill(random: &mut Random, ports: Vec<DraftPort>, taste: Taste) -> Opti
     let bytes_left = MOST_VECTOR_BYTES - 56 * count;
     let ids = vec![Pool::default(); count];
     let memory = vec![Pool::default(); count];
-    let mut filling = Filling { random, taste, ports, ids, memory, bytes_left };
+    let video = vec![false; count];
+    let mut filling = Filling { random, taste, ports, ids, memory, video, bytes_left };
     filling.hand_out_at(None)?;
     for port in 0..count {
         filling.hand_out_at(Some(port))?;
@@ -318,11 +325,16 @@ impl Filling<'_> {
     }
 
     /// Shares the memory of a place out to its ports. At the root, this is all Low memory and some
-    /// stretches of High memory.
+    /// stretches of High memory. Often the first MiB is kept back, so that any port can have the video range.
     fn hand_out_memory(&mut self, place: Option<usize>, children: &[usize], weights: &[u64]) {
         let pool = match place {
             None => self.memory_of_the_root(),
             Some(port) => self.memory[port].clone(),
+        };
+        let has_video = pool.contains(0, 1) || place.is_some_and(|port| self.video[port]);
+        let pool = match self.random.percent(25) {
+            true => pool.without(&Pool::of(vec![(0, 1)])),
+            false => pool,
         };
         let scattered = self.random.percent(self.taste.scattered);
         let low = pool.within(0, LOW_END).share(self.random, weights, self.taste.low_cell, scattered);
@@ -332,6 +344,18 @@ impl Filling<'_> {
             let share = low[index].union(&high[index]);
             self.claim_memory(child, weights[index] > 1, &share);
         }
+        if has_video && self.random.percent(self.taste.video) {
+            self.give_video(children);
+        }
+    }
+
+    /// Gives VGA Enable to one of the ports at a place: the one that claims the first MiB, if one does.
+    /// Without Memory Space Enable it claims nothing there.
+    fn give_video(&mut self, children: &[usize]) {
+        let holder = children.iter().copied().find(|&child| self.memory[child].contains(0, 1));
+        let chosen = holder.unwrap_or_else(|| self.random.pick(children));
+        self.video[chosen] = self.ports[chosen].has_memory_space();
+        self.ports[chosen].set_vga(true);
     }
 
     /// Low memory, and stretches just above 4 GiB, somewhere in the middle, and at the very top.
@@ -349,7 +373,7 @@ impl Filling<'_> {
         Pool::of(ranges)
     }
 
-    /// Lets the port claim part of its share of memory, by any mixture of its four decoders.
+    /// Lets the port claim part of its share of memory, by any mixture of its windows and vectors.
     fn claim_memory(&mut self, port: usize, has_children: bool, share: &Pool) {
         if self.random.percent(if has_children { 2 } else { 15 }) {
             self.scribble_with_memory_space_off(port);
@@ -371,6 +395,8 @@ impl Filling<'_> {
         let base = self.random.below(LOW_END) as u16;
         let limit = self.random.below(LOW_END) as u16;
         self.ports[port] = self.ports[port].clone().memory(base, limit).with_memory_space(false);
+        let vga = self.random.percent(50);
+        self.ports[port].set_vga(vga);
     }
 
     /// Sets Memory Base and Limit to a run of the share, or leaves them closed.

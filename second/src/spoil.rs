@@ -157,7 +157,7 @@ fn edit_edition(random: &mut Random, picture: &mut Vec<u8>) {
 /// A count at an edge.
 fn edit_count(random: &mut Random, picture: &mut Vec<u8>) {
     let count = picture[2] as u16;
-    put_2(picture, 2, random.pick(&[0, 1, count + 1, count.wrapping_sub(1), 64, 65, 256 + count, 0xFFFF]));
+    put_2(picture, 2, random.pick(&[0, 0, 1, count + 1, count.wrapping_sub(1), 64, 65, 256 + count, 0xFFFF]));
 }
 
 /// A total that is off by a little or by a lot.

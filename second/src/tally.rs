@@ -5,7 +5,7 @@ use std::collections::BTreeMap;
 use crate::batch::{Record, Records};
 
 /// The words for the bits of a claim, bit 0 first.
-const DECODERS: [&str; 6] = ["bus", "rid", "mem", "pref", "low", "high"];
+const DECODERS: [&str; 7] = ["bus", "rid", "mem", "pref", "low", "high", "vga"];
 
 /// The words for the values of a conversion.
 const CONVERSIONS: [&str; 4] = ["not claimed", "Type 0", "Type 1", "Unsupported Request"];

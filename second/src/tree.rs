@@ -2,7 +2,7 @@
 
 use crate::draft::{Which, ALL_VECTORS};
 use crate::judge::{report_of_refusal, Judge};
-use crate::picture::{AddressRange, Picture, Port, Vector};
+use crate::picture::{AddressRange, Picture, Port, Vector, VIDEO_RANGE};
 use crate::words::{granularity_text, id_text, kind_text, start_text, vector_name};
 
 /// What the tree program prints: the drawing, or the refusal of a picture that does not read.
@@ -85,13 +85,18 @@ fn buses_text(port: &Port) -> String {
     }
 }
 
-/// That memory space is off, or the windows that claim something.
+/// That memory space is off, or the windows that claim something, with VGA Enable the video range among them.
 fn windows_text(port: &Port) -> String {
     if !port.memory_space {
         return "; memory space off".to_string();
     }
     let digits = if port.prefetchable_is_64 { 16 } else { 8 };
-    window_text("memory", port.memory, 8) + &window_text("prefetchable", port.prefetchable, digits)
+    let windows =
+        window_text("memory", port.memory, 8) + &window_text("prefetchable", port.prefetchable, digits);
+    match port.vga_enable {
+        true => windows + &window_text("video", VIDEO_RANGE, 8),
+        false => windows,
+    }
 }
 
 /// A window of so many digits; nothing for one that claims nothing.

@@ -14,7 +14,7 @@ use Which::{High, Low, Rid};
 type Call = (Record, String);
 
 /// A patch as it is written: count, total, number and offset of each port, then the vectors.
-fn patch(count: u32, total: u32, ports: &[(u32, u32)], vectors: Vec<u8>) -> Vec<u8> {
+pub fn patch(count: u32, total: u32, ports: &[(u32, u32)], vectors: Vec<u8>) -> Vec<u8> {
     let mut bytes = [count.to_le_bytes(), total.to_le_bytes()].concat();
     for (port, offset) in ports {
         bytes.extend(port.to_le_bytes());
@@ -25,7 +25,7 @@ fn patch(count: u32, total: u32, ports: &[(u32, u32)], vectors: Vec<u8>) -> Vec<
 }
 
 /// So many bytes, with these bits set, counted from the first byte's lowest.
-fn bits(length: usize, set: &[usize]) -> Vec<u8> {
+pub fn bits(length: usize, set: &[usize]) -> Vec<u8> {
     let mut bytes = vec![0; length];
     set.iter().for_each(|bit| bytes[bit / 8] |= 1 << (bit % 8));
     bytes
@@ -78,17 +78,17 @@ fn in_trial((call, expected): Call) -> Call {
 }
 
 /// The trial prints this line.
-fn prints(line: &str) -> Call {
+pub fn prints(line: &str) -> Call {
     (Record::TrialReport, line.to_string())
 }
 
 /// The trial's check gives this number, these ports and this least target.
-fn finds(number: u8, port: u8, second: u8, target: Option<u64>) -> Call {
+pub fn finds(number: u8, port: u8, second: u8, target: Option<u64>) -> Call {
     in_trial(checks(number, port, second, target))
 }
 
 /// A walk in the trial: end, port, second port and Function number, with this path.
-fn goes(kind: u32, start: u32, target: u64, end: [u8; 4], path: &[u8]) -> Call {
+pub fn goes(kind: u32, start: u32, target: u64, end: [u8; 4], path: &[u8]) -> Call {
     in_trial(walks(kind, start, target, end, path))
 }
 
@@ -103,12 +103,12 @@ fn lies(port: u32, mechanism: u32, answer: &str) -> Call {
 }
 
 /// A trial on a picture given as bytes.
-fn trial(name: &'static str, picture: Vec<u8>, patch: Vec<u8>, calls: Vec<Call>) -> Case {
+pub fn trial(name: &'static str, picture: Vec<u8>, patch: Vec<u8>, calls: Vec<Call>) -> Case {
     Case { name, picture, patch: Some(patch), calls }
 }
 
 /// A trial that is clear, with further calls.
-fn clear_trial(name: &'static str, ports: Vec<DraftPort>, patch: Vec<u8>, calls: Vec<Call>) -> Case {
+pub fn clear_trial(name: &'static str, ports: Vec<DraftPort>, patch: Vec<u8>, calls: Vec<Call>) -> Case {
     let report = prints(&format!("ports {}/clear", ports.len()));
     let first = vec![report, finds(0, 255, 255, None)];
     trial(name, Draft::of(ports).bytes(), patch, [first, calls].concat())

@@ -136,7 +136,8 @@ fn walks_after(random: &mut Random, of: Readable, patch: &[u8], count: usize) ->
         .collect()
 }
 
-/// A walk to a target, just before it or just behind its smallest granule.
+/// A walk to a target, just before it or just behind its smallest granule, or where the video range begins if
+/// the target is 0.
 fn walk_around(random: &mut Random, picture: &Picture, target: Target) -> Record {
     let (kind, target) = match target {
         Target::Id(id) => {
@@ -144,7 +145,7 @@ fn walk_around(random: &mut Random, picture: &Picture, target: Target) -> Record
             (random.pick(&[0, 0, 2]), id.wrapping_add(around) as u64)
         }
         Target::Address(address) => {
-            (1, address.wrapping_add(random.pick(&[0, 0, 0xF_FFFF, 0x10_0000, u64::MAX])))
+            (1, address.wrapping_add(random.pick(&[0, 0, 0xA_0000, 0xF_FFFF, 0x10_0000, u64::MAX])))
         }
     };
     Record::TrialWalk { kind, start: some_start(random, picture, kind), target }

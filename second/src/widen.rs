@@ -4,12 +4,12 @@
 use crate::claims::{bus, unit};
 use crate::draft::{Draft, DraftPort, VectorShape, Which};
 use crate::judge::Judge;
-use crate::picture::{Refusal, Target, MIB};
+use crate::picture::{Refusal, Target, MIB, VIDEO_RANGE};
 use crate::random::Random;
 
 /// The first MiB that is not below 4 GiB, and how many of them a High granule has.
 const LOW_END: u64 = 4_096;
-const MIB_OF_A_HIGH_GRANULE: u64 = 256;
+pub const MIB_OF_A_HIGH_GRANULE: u64 = 256;
 
 /// Lets the ports that the check names claim its least target by more decoders, if it gives one.
 pub fn widen(random: &mut Random, draft: &mut Draft) {
@@ -19,8 +19,19 @@ pub fn widen(random: &mut Random, draft: &mut Draft) {
         let registers = &mut draft.ports[named.port as usize];
         match target {
             Target::Id(id) => widen_at_id(random, registers, id),
+            Target::Address(address) if VIDEO_RANGE.contains(address) => widen_in_video(random, registers),
             Target::Address(address) => widen_at_mib(random, registers, address / MIB),
         }
+    }
+}
+
+/// VGA Enable is set, or is not. Half of the ports may claim the whole MiB: where two do, the check finds 0.
+fn widen_in_video(random: &mut Random, registers: &mut DraftPort) {
+    if random.percent(50) {
+        registers.set_vga(true);
+    }
+    if random.percent(50) {
+        widen_at_mib(random, registers, 0);
     }
 }
 
@@ -51,7 +62,7 @@ fn widen_at_mib(random: &mut Random, registers: &mut DraftPort, mib: u64) {
 }
 
 /// Sets the entry that applies to a smallest granule, if one does; a port without the vector is given one.
-fn set_entry(registers: &mut DraftPort, which: Which, granule: u64) {
+pub fn set_entry(registers: &mut DraftPort, which: Which, granule: u64) {
     if registers.bytes(which).is_empty() {
         let start = granule / 32 * 32;
         registers.give_vector(which, VectorShape { size_code: 0, granularity_code: 0, start });

@@ -4,8 +4,10 @@ use crate::draft::{Draft, DraftPort, VectorShape, Which, ALL_VECTORS, UPSTREAM};
 use crate::random::Random;
 use crate::sound::allowed_shapes;
 use crate::topology::{grow, port_count, ALL_FORMS};
+use crate::video::crowd_the_first_mib;
 
-/// Bits of the registers that nobody looks at: Capabilities, RID Control 1 and 2, Low, High.
+/// Bits of the registers that nobody looks at: Bridge Control, Capabilities, RID Control 1 and 2, Low, High.
+const BRIDGE_CONTROL_RESERVED: u16 = 0xFFF7;
 const CAPABILITIES_RESERVED: u32 = 0xF8F8_F800;
 const RID_1_RESERVED: u32 = 0x0007_FF0E;
 const RID_2_RESERVED: u32 = 0xFFFF_0007;
@@ -15,6 +17,9 @@ const HIGH_1_RESERVED: u32 = 0x0FFF_FF0E;
 /// How many buses the ports of a picture crowd into; the fewer, the more they overlap.
 const WORLDS: [u64; 5] = [1, 2, 6, 6, WHOLE_WORLD];
 const WHOLE_WORLD: u64 = 256;
+
+/// In how many of a hundred pictures ports meet in the first MiB.
+const CROWDED: u64 = 15;
 
 /// A random picture that reads.
 pub fn wild(random: &mut Random) -> Draft {
@@ -32,7 +37,11 @@ pub fn wild(random: &mut Random) -> Draft {
             }
         }
     }
-    Draft::of(ports)
+    let mut draft = Draft::of(ports);
+    if random.percent(CROWDED) {
+        crowd_the_first_mib(random, &mut draft);
+    }
+    draft
 }
 
 /// Random memory over what is sound as far as IDs go.
@@ -45,6 +54,9 @@ pub fn make_memory_wild(random: &mut Random, sound: &mut Draft) {
                 fill_bytes(random, port.bytes_mut(which));
             }
         }
+    }
+    if random.percent(CROWDED) {
+        crowd_the_first_mib(random, sound);
     }
 }
 
@@ -153,7 +165,7 @@ pub fn add_noise(random: &mut Random, draft: &mut Draft) {
 fn scribble_reserved_bits(random: &mut Random, port: &mut DraftPort) {
     port.command |= random.bits() as u16 & !0x0002;
     port.device_control_2 |= random.bits() as u16 & !0x0020;
-    port.bridge_control = random.bits() as u16;
+    port.bridge_control |= random.bits() as u16 & BRIDGE_CONTROL_RESERVED;
     port.capabilities |= random.bits() as u32 & CAPABILITIES_RESERVED;
     port.rid_control_1 |= random.bits() as u32 & RID_1_RESERVED;
     port.rid_control_2 |= random.bits() as u32 & RID_2_RESERVED;

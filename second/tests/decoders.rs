@@ -15,26 +15,28 @@ use second::random::Random;
 use second::tally::tally;
 use second::wild::wild;
 
-/// The bits of the six decoders.
+/// The bits of the seven decoders.
 const BUS: u32 = 1;
 const RID: u32 = 2;
 const MEM: u32 = 4;
 const PREF: u32 = 8;
 const LOW: u32 = 16;
 const HIGH: u32 = 32;
+const VGA: u32 = 64;
 
 /// A way to switch something of a port off, and the decoders that claim nothing then.
 type Switch = (fn(&mut DraftPort), u32);
 
 /// All of them.
-const SWITCHES: [Switch; 7] = [
+const SWITCHES: [Switch; 8] = [
     (|port| (port.secondary, port.subordinate) = (0, 0), BUS),
     (|port| port.set_enabled(Which::Rid, false), RID),
     (|port| (port.memory_base, port.memory_limit) = (0xFFF0, 0), MEM),
     (close_prefetchable, PREF),
     (|port| port.set_enabled(Which::Low, false), LOW),
     (|port| port.set_enabled(Which::High, false), HIGH),
-    (|port| port.set_memory_space(false), MEM | PREF | LOW | HIGH),
+    (|port| port.set_vga(false), VGA),
+    (|port| port.set_memory_space(false), MEM | PREF | LOW | HIGH | VGA),
 ];
 
 /// Prefetchable of type 0, with its base above its limit.
@@ -77,12 +79,28 @@ fn a_decoder_that_is_switched_off_is_the_only_one_to_go() {
                 let before = bits(&judge, target);
                 let after: Vec<u32> = before.iter().map(|bits| bits & !gone).collect();
                 assert_eq!(bits(&other, target), after, "seed {seed}, {target:?}");
-                seen |= before.iter().fold(0, |all, bits| all | 1u64 << bits);
+                seen |= before.iter().fold(0, |all, bits| all | 1u128 << bits);
             }
         }
     }
     let sets = [0, BUS, RID, BUS | RID, MEM, PREF, LOW, HIGH, MEM | PREF, MEM | LOW, PREF | LOW, PREF | HIGH];
-    assert!(sets.iter().all(|set| seen >> set & 1 == 1), "{seen:b}");
+    let with_video = [VGA, MEM | VGA, PREF | VGA, LOW | VGA, MEM | PREF | LOW | VGA];
+    assert!(sets.iter().chain(&with_video).all(|set| seen >> set & 1 == 1), "{seen:b}");
+}
+
+#[test]
+fn of_bridge_control_bit_3_alone_is_read() {
+    for bit in 0..16 {
+        let before = DraftPort::silent(ROOT, NO_PARENT, 0x0008).memory(0, 0);
+        let mut after = before.clone();
+        after.bridge_control ^= 1 << bit;
+        let [before, after] = [before, after].map(|port| Judge::new(&Draft::of(vec![port]).bytes()));
+        let is_same = before.reading().expect("it reads") == after.reading().expect("it reads");
+        assert_eq!(is_same, bit != 3, "bit {bit}");
+        let video = if bit == 3 { MEM | VGA } else { MEM };
+        assert_eq!(bits(&after, Target::Address(0xA_0000)), [video], "bit {bit}");
+        assert_eq!(bits(&before, Target::Address(0xA_0000)), [MEM], "bit {bit}");
+    }
 }
 
 #[test]
@@ -96,21 +114,22 @@ fn each_decoder_has_its_bit_and_is_a_claim() {
         (Decoders { pref: true, ..none }, PREF),
         (Decoders { low: true, ..none }, LOW),
         (Decoders { high: true, ..none }, HIGH),
+        (Decoders { vga: true, ..none }, VGA),
     ] {
         assert_eq!((decoders.bits(), decoders.any()), (bit, true), "{decoders:?}");
     }
-    let all = Decoders { bus: true, rid: true, mem: true, pref: true, low: true, high: true };
-    assert_eq!(all.bits(), 63);
+    let all = Decoders { bus: true, rid: true, mem: true, pref: true, low: true, high: true, vga: true };
+    assert_eq!(all.bits(), 127);
 }
 
 #[test]
 fn texts_are_picked_with_own_first_and_then_in_the_decoders_order() {
-    let texts = ["own", "bus", "rid", "mem", "pref", "low", "high"];
-    let all = Decoders { bus: true, rid: true, mem: true, pref: true, low: true, high: true };
+    let texts = ["own", "bus", "rid", "mem", "pref", "low", "high", "vga"];
+    let all = Decoders { bus: true, rid: true, mem: true, pref: true, low: true, high: true, vga: true };
     assert_eq!(Holding { own: true, decoders: all }.those_of(texts), texts);
     assert_eq!(Holding { own: false, decoders: all }.those_of(texts), texts[1..]);
-    let some = Decoders { rid: true, low: true, ..Decoders::default() };
-    assert_eq!(Holding { own: true, decoders: some }.those_of(texts), ["own", "rid", "low"]);
+    let some = Decoders { rid: true, low: true, vga: true, ..Decoders::default() };
+    assert_eq!(Holding { own: true, decoders: some }.those_of(texts), ["own", "rid", "low", "vga"]);
     assert!(Holding { own: false, decoders: Decoders::default() }.those_of(texts).is_empty());
 }
 
@@ -163,6 +182,20 @@ fn the_40_bytes_do_not_tell_decoders() {
 }
 
 #[test]
+fn the_least_address_can_be_where_the_video_range_begins() {
+    let root = |own_id| DraftPort::silent(ROOT, NO_PARENT, own_id).video();
+    let judge = Judge::new(&Draft::of(vec![root(0), root(1)]).bytes());
+    let mut buffer = [0xAA; 40];
+    assert_eq!(judge.check_call(&mut buffer), 12);
+    assert_eq!(buffer[..8], [12, 0, 0, 1, 0, 0, 0, 0]);
+    assert_eq!(buffer[8..16], [0, 0, 0x0A, 0, 0, 0, 0, 0]);
+    assert_eq!(buffer[16..], [255; 24]);
+    assert_eq!(judge.claims(1, 0xA_0000), "port 0 by vga\nport 1 by vga\n");
+    let mut value = u32::MAX;
+    assert_eq!((judge.claim_call(&mut value, 0, 1, 0xB_FFFF), value), (0, VGA));
+}
+
+#[test]
 fn every_line_of_claims_ends_with_a_newline() {
     let judge = Judge::new(&one_port_picture());
     assert_eq!(judge.claims(0, 0x0008), "port 0 by own\n");
@@ -170,6 +203,9 @@ fn every_line_of_claims_ends_with_a_newline() {
     assert_eq!(judge.claims(1, 0), "nobody\n");
     assert_eq!(judge.claims(0, 0x1_0000), "refused 16\n");
     assert_eq!(Judge::new(&[]).claims(0, 0), "refused 1\n");
+    let video = DraftPort::silent(ROOT, NO_PARENT, 0x0008).memory(0, 0).video();
+    let judge = Judge::new(&Draft::of(vec![video]).bytes());
+    assert_eq!(judge.claims(1, 0xA_0000), "port 0 by mem vga\n");
     let root = |own_id| DraftPort::silent(ROOT, NO_PARENT, own_id).buses(3, 3);
     let judge = Judge::new(&Draft::of(vec![root(0), root(0x0300)]).bytes());
     assert_eq!(judge.claims(0, 0x0300), "port 0 by bus\nport 1 by own bus\n");
@@ -233,12 +269,13 @@ fn bad_arguments_of_claims_are_bad_usage() {
 fn a_tally_counts_claims_by_decoders_conversions_by_value_and_holders() {
     let claim = |port, target_kind, target| Record::Claim { port, target_kind, target };
     let holders = |target_kind, target| Record::Holders { target_kind, target };
-    let both = DraftPort::silent(ROOT, NO_PARENT, 0x0008).memory(7, 7).prefetchable(7, 8).buses(3, 4);
+    let both = DraftPort::silent(ROOT, NO_PARENT, 0x0008).memory(7, 7).prefetchable(7, 8).buses(3, 4).video();
     let other = DraftPort::silent(ROOT, NO_PARENT, 0x0300);
     let picture = Record::Picture(Draft::of(vec![both, other]).bytes());
     let conversions =
         [0x0300, 0x0301, 0x0308, 0x0400, 8, 0x1_0000].map(|id| Record::Conversion { port: 0, id });
-    let claims = [claim(0, 1, 0x70_0000), claim(0, 1, 0x80_0000), claim(0, 0, 8), claim(2, 0, 8)];
+    let addresses = [0x70_0000, 0x80_0000, 0xA_0000].map(|address| claim(0, 1, address));
+    let claims = [&addresses[..], &[claim(0, 0, 8), claim(2, 0, 8)]].concat();
     let asked = [holders(0, 8), holders(0, 0x0300), holders(0, 9), holders(2, 0), holders(0, 0x0301)];
     let mut batch = Vec::new();
     let records = [&[picture][..], &conversions, &claims, &asked].concat();
@@ -250,6 +287,7 @@ fn a_tally_counts_claims_by_decoders_conversions_by_value_and_holders() {
         ("claim: number  0 mem pref", 1),
         ("claim: number  0 none", 1),
         ("claim: number  0 pref", 1),
+        ("claim: number  0 vga", 1),
         ("claim: number 16 ffffffff", 1),
         ("conversion: number  0 Type 0", 2),
         ("conversion: number  0 Type 1", 1),

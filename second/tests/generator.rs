@@ -5,9 +5,10 @@ use std::sync::OnceLock;
 
 use second::batch::{answers, differences, Lent, Record, Records};
 use second::check::candidate_addresses;
+use second::draft::{Draft, DraftPort, NO_PARENT, ROOT};
 use second::generate::{generate, hand_written, sound_draft};
 use second::judge::Judge;
-use second::picture::Picture;
+use second::picture::{read, Picture, Port, VIDEO_RANGE};
 use second::random::Random;
 use second::samples::{sample, SAMPLE_NAMES};
 use second::spoil::reading_edges;
@@ -23,6 +24,49 @@ fn sound_pictures_are_sound_with_noise_or_without() {
         add_noise(random, &mut draft);
         assert_eq!(Judge::new(&draft.bytes()).check(), Ok(()), "seed {seed} with noise");
     }
+}
+
+#[test]
+fn noise_changes_nothing_that_is_read() {
+    let mut noisy = 0;
+    for seed in 0..100 {
+        let random = &mut Random::new(seed);
+        let mut draft = if seed % 2 == 0 { wild(random) } else { sound_draft(random) };
+        let before = read(&draft.bytes());
+        let quiet = draft.ports.clone();
+        add_noise(random, &mut draft);
+        assert_eq!(read(&draft.bytes()), before, "seed {seed}");
+        noisy += quiet.iter().zip(&draft.ports).filter(|(a, b)| a.bridge_control != b.bridge_control).count();
+    }
+    assert!(noisy > 200, "{noisy}");
+}
+
+/// How the video range stands at a port of a sound picture.
+fn video_of(port: &Port, has_parent: bool) -> &'static str {
+    match (port.vga_enable && port.memory_space, has_parent, port.claims_address(0)) {
+        (true, true, false) => "below a port",
+        (true, true, true) => "with the first MiB below a port",
+        (true, false, false) => "at the root",
+        (true, false, true) => "with the first MiB at the root",
+        _ if port.vga_enable => "without Memory Space Enable",
+        _ => "not at all",
+    }
+}
+
+#[test]
+fn sound_pictures_hand_out_the_video_range() {
+    let mut counts = Counts::default();
+    for seed in 0..200 {
+        let judge = Judge::new(&sound_draft(&mut Random::new(seed)).bytes());
+        let picture = judge.reading().expect("a sound picture reads");
+        for (number, port) in picture.ports.iter().enumerate() {
+            counts.add(video_of(port, port.parent.is_some()));
+            let deep = picture.depth(number) > 3 && port.claims_address(VIDEO_RANGE.base);
+            counts.add(if deep && !port.claims_address(0) { "deep" } else { "other" });
+        }
+    }
+    counts.have(10, &["below a port", "with the first MiB below a port", "at the root", "deep"]);
+    counts.have(10, &["with the first MiB at the root", "without Memory Space Enable", "not at all"]);
 }
 
 #[test]
@@ -87,6 +131,21 @@ fn the_last_candidate_not_above_an_address_is_claimed_by_the_same_ports() {
             }
         }
     }
+}
+
+#[test]
+fn the_edges_of_the_video_range_are_candidates_where_it_is_claimed() {
+    let root = |own_id| DraftPort::silent(ROOT, NO_PARENT, own_id);
+    let candidates = |port: DraftPort| {
+        let judge = Judge::new(&Draft::of(vec![port]).bytes());
+        let picture = judge.reading().expect("the picture reads");
+        let candidates = candidate_addresses(picture);
+        [0, 0xA_0000, 0xB_FFFF, 0xC_0000].map(|address| candidates.contains(&address))
+    };
+    assert_eq!(candidates(root(0).video()), [true, true, false, true]);
+    assert_eq!(candidates(root(0).video().with_memory_space(false)), [true, false, false, false]);
+    assert_eq!(candidates(root(0).memory(0, 0)), [true, false, false, false]);
+    assert_eq!(candidates(root(0).memory(0, 0).video()), [true, true, false, true]);
 }
 
 #[test]
@@ -188,6 +247,18 @@ const OF_IDS: [&str; 3] = ["bus", "rid", "bus rid"];
 const OF_ADDRESSES: [&str; 9] =
     ["mem", "pref", "low", "high", "mem pref", "mem low", "pref low", "mem pref low", "pref high"];
 
+/// The sets that can claim an address of the video range, with VGA Enable.
+const OF_VIDEO: [&str; 8] = [
+    "vga",
+    "mem vga",
+    "pref vga",
+    "low vga",
+    "mem pref vga",
+    "mem low vga",
+    "pref low vga",
+    "mem pref low vga",
+];
+
 /// The ports of a text with why each of them holds the target: `2 by bus 3 by own rid`.
 fn ports_with_words(text: &str) -> Vec<(u8, String)> {
     let mut ports: Vec<(u8, String)> = Vec::new();
@@ -213,7 +284,8 @@ fn every_set_of_decoders_occurs_in_claims() {
     }
     let [ids, addresses] = values;
     assert!(ids.keys().copied().eq(["00000000", "00000001", "00000002", "00000003"]));
-    let memory = [0, 4, 8, 12, 16, 20, 24, 28, 32, 40].map(|bits: u32| format!("{bits:08x}"));
+    let memory = [0, 4, 8, 12, 16, 20, 24, 28, 32, 40, 64, 68, 72, 76, 80, 84, 88, 92];
+    let memory = memory.map(|bits: u32| format!("{bits:08x}"));
     assert!(addresses.keys().copied().eq(memory.iter()));
     assert!(ids.values().chain(addresses.values()).all(|&count| count >= 20), "{ids:?} {addresses:?}");
 }
@@ -237,6 +309,7 @@ fn every_set_of_decoders_occurs_among_holders() {
     }
     words_of_ports.have(20, &OF_IDS);
     words_of_ports.have(20, &OF_ADDRESSES);
+    words_of_ports.have(20, &OF_VIDEO);
     words_of_ports.have(5, &["own", "own bus", "own rid", "own bus rid"]);
     answers.have(100, &["nobody", "one", "several", "refused 16"]);
     answers.have(2, &["refused 1", "refused 2", "refused 3", "refused 4", "refused 5"]);
@@ -280,17 +353,42 @@ fn every_set_of_decoders_occurs_in_the_lines_of_11_to_14() {
     of(13, &["own"]);
     of(13, &OF_IDS);
     of(14, &OF_ADDRESSES);
+    counts.have(10, &["12 vga, vga", "14 vga"]);
+    counts.have(2, &["12 mem vga", "12 pref vga", "12 low vga", "12 mem pref low vga"]);
+    counts.have(2, &["12 vga, mem", "12 vga, mem vga", "12 low vga, vga"]);
     counts.have(10, &["itself own bus", "itself own rid", "itself own bus rid"]);
-    counts.have(2, &["11 own, own", "11 own, bus", "11 bus, own", "11 own, rid", "11 rid, own"]);
+    counts.have(2, &["11 own, own", "11 own, bus", "11 bus, own", "11 own, rid", "11 bus, own rid"]);
     counts.have(
         2,
-        &["11 bus, rid", "11 rid, bus", "11 own, own rid", "11 rid, bus rid", "11 bus rid, bus rid"],
+        &["11 bus, rid", "11 rid, bus", "11 own, own bus", "11 bus, bus rid", "11 bus rid, own rid"],
     );
     counts.have(
         2,
         &["12 mem, pref", "12 pref, mem", "12 mem, low", "12 low, mem", "12 pref, low", "12 low, pref"],
     );
-    counts.have(2, &["12 pref, high", "12 high, pref high", "12 mem low, mem pref", "12 pref high, pref"]);
+    counts.have(2, &["12 high, high", "12 pref high, high", "12 mem low, mem pref", "12 low, mem pref"]);
+}
+
+#[test]
+fn walks_go_to_the_edges_of_the_video_range() {
+    let mut counts = Counts::default();
+    for (call, line) in calls_with_answers() {
+        let (kind, target) = match *call {
+            Record::Walk { kind: 1, target, .. } => ("walk", target),
+            Record::TrialWalk { kind: 1, target, .. } => ("trial", target),
+            Record::Claim { target_kind: 1, target, .. } => ("claim", target),
+            _ => continue,
+        };
+        counts.add(format!("{kind} {target:x}"));
+        if kind == "walk" && target == VIDEO_RANGE.base {
+            counts.add(format!("end {}", &line[4..6]));
+        }
+    }
+    for target in ["0", "9ffff", "a0000", "bffff", "c0000"] {
+        counts.have(30, &[&format!("walk {target}"), &format!("claim {target}")]);
+        counts.have(10, &[&format!("trial {target}")]);
+    }
+    counts.have(30, &["end 01", "end 03", "end 04", "end 05"]);
 }
 
 #[test]

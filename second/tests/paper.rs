@@ -92,6 +92,17 @@ headings! {
     trials_refused_by_32: "item 2, number 32",
     trials_with_two_faults: "item 2, order",
     where_vectors_lie: "item 2, parts",
+    which_bits_of_bridge_control_count: "item 4, Bridge Control",
+    the_edges_of_the_video_range: "item 4, edges",
+    the_video_range_switched_off: "item 4, off",
+    the_video_range_in_the_first_mib: "item 4, first MiB",
+    the_video_range_of_number_12: "item 4, number 12",
+    the_least_address_and_the_video_range: "item 4, order",
+    the_video_range_of_number_14: "item 4, number 14",
+    the_video_range_where_14_is_not_given: "item 4, no number 14",
+    walks_to_the_display_card: "item 4, walks",
+    doubled_walks_to_the_video_range: "item 4, doubled",
+    trials_with_the_video_range: "item 4, trials",
 }
 
 /// The entry of a target in a vector of 256 entries.

@@ -254,6 +254,30 @@ fn how_two_ports_hold_an_address() {
 }
 
 #[test]
+fn how_the_video_range_is_held() {
+    let other = || DraftPort::silent(ROOT, NO_PARENT, 0x0010);
+    let low = |port: DraftPort| port.vector(Which::Low, shape(0, 0), &[0]).with_memory_space(true);
+    let pair = |ports, by, manners| {
+        let target = "address 00000000000a0000";
+        held_by_two(ports, "refused 12 addr 00000000000a0000", by, target, manners);
+    };
+    let video = "through its video range";
+    pair([root().video(), other().video()], ["vga", "vga"], [video, video]);
+    pair([root().memory(0, 0), other().video()], ["mem", "vga"], ["through its memory window", video]);
+    let two = format!("through its MEM Low vector and {video}");
+    pair([low(root()).video(), other().video()], ["low vga", "vga"], [&two, video]);
+    let four = format!(
+        "through its memory window and through its prefetchable window and through its MEM Low vector and {video}"
+    );
+    let all = low(other().memory(0, 0).prefetchable(0, 0)).video();
+    pair([root().video(), all], ["vga", "mem pref low vga"], [video, &four]);
+    let lost = bytes(&[root().buses(1, 1), DraftPort::silent(UPSTREAM, 0, 0x0100).video()]);
+    let follows = ": address 00000000000a0000 is held by port 1 (01:00.0, below port 0, 00:01.0) \
+                   through its video range, and port 0 does not claim it";
+    says(&lost, "refused 14 addr 00000000000a0000 ports 1 by vga", follows);
+}
+
+#[test]
 fn own_ids_in_the_sentence() {
     let above = [root().buses(1, 4), DraftPort::silent(UPSTREAM, 0, 0x0100).buses(2, 4)];
     let rid = |port: DraftPort| port.vector(Which::Rid, shape(0, 0x60), &[0]);
@@ -334,6 +358,25 @@ fn windows_vectors_and_one_root_port() {
 }
 
 #[test]
+fn the_video_range_in_the_drawing() {
+    let line = |port: DraftPort| tree(&bytes(&[port]));
+    let begin = "---00:01.0-[]  port 0, root port, device port";
+    let video = "; video 000a0000-000bffff";
+    assert_eq!(line(root().video()), format!("{begin}{video}\n"));
+    assert_eq!(line(root().video().with_memory_space(false)), format!("{begin}; memory space off\n"));
+    let mut bit_4 = root().with_memory_space(true);
+    bit_4.bridge_control = 0x0010;
+    assert_eq!(line(bit_4), format!("{begin}\n"));
+    let windows = root().memory(0, 0).prefetchable(0, 0).video();
+    let before = "; memory 00000000-000fffff; prefetchable 0000000000000000-00000000000fffff";
+    assert_eq!(line(windows), format!("{begin}{before}{video}\n"));
+    let low = root().video().with_ari().vector(Which::Low, shape(0, 0), &[0]);
+    let vector = "; MEM Low vector 1 of 256 set, from 00000000 by 1 MiB";
+    assert_eq!(line(low.clone()), format!("{begin}, ARI{video}{vector}\n"));
+    assert_eq!(line(low.with_memory_space(false)), format!("{begin}, ARI; memory space off{vector}\n"));
+}
+
+#[test]
 fn a_picture_that_does_not_read_is_refused() {
     assert_eq!(tree(&[]), "refused 1\n");
     let mut picture = bytes(&[root()]);
@@ -355,7 +398,7 @@ fn pictures_of_all_numbers_occur_and_one_seed_gives_the_same() {
 }
 
 /// What the texts of 150 pictures, as many as tests/differential.sh takes, have somewhere.
-const PHRASES: [&str; 45] = [
+const PHRASES: [&str; 49] = [
     "it has none",
     "it has more than 65,536.",
     "the header says",
@@ -386,6 +429,8 @@ const PHRASES: [&str; 45] = [
     ") through its prefetchable window",
     ") through its MEM Low vector",
     " through its MEM High vector",
+    ") through its video range",
+    " window and through its video range",
     " as its own ID and through its RID vector",
     " through its bus range and through its RID vector",
     " through its memory window and through its prefetchable window",
@@ -396,6 +441,8 @@ const PHRASES: [&str; 45] = [
     "with Unsupported Request",
     "memory space off",
     "; prefetchable ",
+    "device port; video 000a0000-000bffff",
+    "; video 000a0000-000bffff; ",
     ", device port, ARI; ",
     "; MEM High vector ",
     "\n |  ",

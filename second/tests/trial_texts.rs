@@ -170,6 +170,23 @@ fn how_a_port_holds_something_is_told_of_the_new_vectors() {
 }
 
 #[test]
+fn the_video_range_is_told_of_the_picture() {
+    let card = DraftPort::silent(ROOT, NO_PARENT, 0x0010).video();
+    let picture = bytes(&[with_vector(root().with_memory_space(true), Which::Low, 0), card]);
+    let clear = "ports 2\nclear\n";
+    assert!(explain_trial(&picture, &patch(0, 8, &[], 0)).starts_with(clear));
+    let mut set = patch(1, 48, &[(0, 16)], 32);
+    set[16] = 1;
+    let sentence = "An address has two holders at one place: address 00000000000a0000 is held by \
+                    port 0 (00:01.0, a root port) through its MEM Low vector and by \
+                    port 1 (00:02.0, a root port) through its video range.";
+    let line = "refused 12 addr 00000000000a0000 ports 0 by low 1 by vga";
+    assert_eq!(explain_trial(&picture, &set), format!("{line}\n{sentence}\n"));
+    set[16] = 2;
+    assert!(explain_trial(&picture, &set).starts_with(clear));
+}
+
+#[test]
 fn number_15_is_told_of_the_new_vectors() {
     let parent = with_vector(root(), Which::Rid, 0x20).secondary_range(0x40, 0);
     let picture = bytes(&[parent, DraftPort::silent(UPSTREAM, 0, 0x0108)]);
@@ -192,7 +209,6 @@ const PHRASES: [&str; 28] = [
     ", and it has 131072 bytes.",
     ", and it has more than 131,072 bytes.",
     " stands in it, and the picture has 1 port.",
-    ": port 0 stands behind port 0.",
     ": those of port 0 (",
     ": those of port 1 (",
     ": they end at byte 8, and the patch has ",
@@ -204,6 +220,7 @@ const PHRASES: [&str; 28] = [
     ") through its prefetchable window",
     ") through its MEM Low vector",
     ") through its MEM High vector",
+    ") through its video range",
     "refused 12 addr",
     "refused 13 id",
     "refused 14 addr",
@@ -243,6 +260,7 @@ fn both_sides_of_every_form_occur() {
     any(": port ", "and the picture has ", |(port, count)| port == count);
     any(": port ", "and the picture has ", |(port, count)| port > count);
     any(": port ", " stands behind port ", |(port, before)| port < before);
+    any(": port ", " stands behind port ", |(port, before)| port == before);
     any("begin at byte ", "and not at ", |(at, end)| at < end);
     any("begin at byte ", "and not at ", |(at, end)| at > end);
     any("its header says ", "and it has ", |(total, length)| total < length);
@@ -253,15 +271,15 @@ fn both_sides_of_every_form_occur() {
 #[test]
 fn each_turn_gives_its_number_for_every_seed() {
     for seed in 1..=5 {
-        let numbers: Vec<u8> = pairs(seed, 33)
+        let numbers: Vec<u8> = pairs(seed, 35)
             .map(|pair| {
                 Judge::of_trial(&pair.picture, &pair.patch).check().map_or_else(|found| found.number, |()| 0)
             })
             .collect();
         let wanted = [vec![30; 11], vec![31; 5], vec![32; 6]].concat();
         assert_eq!(numbers[..22], wanted, "seed {seed}");
-        assert_eq!(numbers[23..32], [0, 0, 11, 11, 12, 13, 14, 15, 15], "seed {seed}");
-        assert!((1..=10).contains(&numbers[32]), "seed {seed}");
+        assert_eq!(numbers[23..34], [0, 0, 11, 11, 12, 12, 12, 13, 14, 15, 15], "seed {seed}");
+        assert!((1..=10).contains(&numbers[34]), "seed {seed}");
     }
 }
 

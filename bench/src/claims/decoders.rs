@@ -6,6 +6,10 @@ use crate::registers::Bridge;
 use crate::registers::Fpb;
 use crate::registers::Mechanism;
 
+// The video range.
+pub const VIDEO_FIRST: u64 = 0xA0000;
+const VIDEO_LAST: u64 = 0xBFFFF;
+
 // The bus pair; 0, 0 claims nothing.
 pub fn bus_claims(b: Bridge, rid: Rid) -> bool {
     let bus = rid.bus();
@@ -51,6 +55,16 @@ pub fn low_claims(f: Fpb, v: &[u8], a: u64) -> bool {
 // The MEM High vector, from 4 GiB up alone.
 pub fn high_claims(f: Fpb, v: &[u8], a: u64) -> bool {
     (4294967296 <= a) & vector_claims(f, Mechanism::High, v, a)
+}
+
+// VGA Enable, bit 3 of Bridge Control.
+pub fn vga_enabled(b: Bridge) -> bool {
+    (b.bridge_control >> 3) % 2 == 1
+}
+
+// The video range, with VGA Enable.
+pub fn video_claims(b: Bridge, a: u64) -> bool {
+    vga_enabled(b) & ((VIDEO_FIRST <= a) & (a <= VIDEO_LAST))
 }
 
 // Without it no memory decoder of the port claims anything.

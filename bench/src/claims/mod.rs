@@ -14,16 +14,21 @@ pub use crate::claims::decoders::memory_space_enabled;
 pub use crate::claims::decoders::prefetchable_claims;
 pub use crate::claims::decoders::upper_of;
 pub use crate::claims::decoders::vector_claims;
+pub use crate::claims::decoders::vga_enabled;
+pub use crate::claims::decoders::video_claims;
+pub use crate::claims::decoders::VIDEO_FIRST;
 use crate::chassis::Decoders;
 use crate::ids::PortNo;
 use crate::ids::Rid;
 use crate::ids::Target;
 use crate::picture::vector;
+use crate::registers::enables_of;
 use crate::registers::port_at;
 use crate::registers::Mechanism;
 
 // No decoder claims the target.
-const NO_DECODERS: Decoders = Decoders { bus: false, rid: false, mem: false, pref: false, low: false, high: false };
+const NO_DECODERS: Decoders =
+    Decoders { bus: false, rid: false, mem: false, pref: false, low: false, high: false, vga: false };
 
 // The decoders of port p that claim an ID: its bus pair, its RID vector.
 fn id_decoders(s: &[u8], p: PortNo, rid: Rid) -> Decoders {
@@ -47,6 +52,7 @@ fn address_decoders(s: &[u8], p: PortNo, a: u64) -> Decoders {
         by.pref = prefetchable_claims(b, a);
         by.low = low_claims(f, vector(s, p, Mechanism::Low), a);
         by.high = high_claims(f, vector(s, p, Mechanism::High), a);
+        by.vga = video_claims(b, a);
     }
     by
 }
@@ -80,6 +86,12 @@ pub fn is_own(s: &[u8], p: PortNo, t: Target) -> bool {
 // Whether the target is port p's own or claimed by it.
 pub fn holds(s: &[u8], p: PortNo, t: Target) -> bool {
     is_own(s, p, t) | claims(s, p, t)
+}
+
+// Whether port p claims the video range; two reads of its record.
+pub fn claims_video(s: &[u8], p: PortNo) -> bool {
+    let b = enables_of(s, p);
+    memory_space_enabled(b) & vga_enabled(b)
 }
 
 // Whether port p forwards with ARI.

@@ -23,6 +23,18 @@ fn clashes(s: &[u8], t: Target, p: PortNo, q: PortNo) -> bool {
     false
 }
 
+// Whether port p shares the target with one of n ports, or claims it as its own ID.
+pub fn clashes_with(s: &[u8], n: u8, t: Target, p: PortNo) -> bool {
+    let mut q: u8 = 0;
+    while q < n {
+        if clashes(s, t, p, PortNo(q)) {
+            return true;
+        }
+        q += 1;
+    }
+    false
+}
+
 // The first pair at a target that is shared, by first port and then second, a port with itself tried too.
 pub fn first_pair(s: &[u8], n: u8, t: Target) -> Pair {
     let mut p: u8 = 0;

@@ -12,13 +12,13 @@ use crate::trees::parent_at;
 
 // What may be wrong with a port by itself.
 #[derive(Clone, Copy)]
-pub enum Fault {
+pub enum PortFault {
     Stray(Target),
     Lost,
 }
 
 // Whether port p is no root port and holds a target that its parent does not claim.
-fn strays_at(s: &[u8], t: Target, p: PortNo) -> bool {
+pub fn strays_at(s: &[u8], t: Target, p: PortNo) -> bool {
     !(kind_at(s, p) == 0) & holds(s, p, t) & !claims(s, parent_at(s, p), t)
 }
 
@@ -40,15 +40,15 @@ fn own_id_lost(s: &[u8], p: PortNo) -> bool {
 }
 
 // Whether a port has a fault.
-fn has_fault(s: &[u8], fault: Fault, p: PortNo) -> bool {
+fn has_fault(s: &[u8], fault: PortFault, p: PortNo) -> bool {
     match fault {
-        Fault::Stray(t) => strays_at(s, t, p),
-        Fault::Lost => own_id_lost(s, p),
+        PortFault::Stray(t) => strays_at(s, t, p),
+        PortFault::Lost => own_id_lost(s, p),
     }
 }
 
 // The lowest of n ports that has a fault.
-pub fn lowest(s: &[u8], n: u8, fault: Fault) -> Culprit {
+pub fn lowest(s: &[u8], n: u8, fault: PortFault) -> Culprit {
     let mut p: u8 = 0;
     while p < n {
         if has_fault(s, fault, PortNo(p)) {
@@ -61,7 +61,7 @@ pub fn lowest(s: &[u8], n: u8, fault: Fault) -> Culprit {
 
 // The lowest of n ports that strays at a target; 255 where none does.
 pub fn lowest_stray(s: &[u8], n: u8, t: Target) -> PortNo {
-    match lowest(s, n, Fault::Stray(t)) {
+    match lowest(s, n, PortFault::Stray(t)) {
         Culprit::Port(p) => p,
         Culprit::Nobody => PortNo(255),
     }

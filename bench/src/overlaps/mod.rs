@@ -3,6 +3,7 @@
 mod meetings;
 mod pairs;
 mod strays;
+mod video;
 
 pub use crate::overlaps::pairs::least_shared;
 pub use crate::overlaps::strays::least_stray;

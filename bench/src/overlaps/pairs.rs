@@ -1,9 +1,11 @@
 // Numbers 11 and 12: the least target that two ports at one place hold, or that is the own ID of a port that claims it.
+use crate::chassis::Fault;
 use crate::ids::PortNo;
 use crate::ids::Space;
 use crate::least::Found;
 use crate::overlaps::meetings::least_meeting;
 use crate::overlaps::meetings::Holding;
+use crate::overlaps::video::with_video;
 use crate::trees::parent_at;
 
 // The best so far, after ports p and q were tried; a port with itself is its own ID against its claims.
@@ -37,5 +39,5 @@ pub fn least_shared(s: &[u8], n: u8, space: Space) -> Found {
         best = with_port(s, n, space, p, best);
         p += 1;
     }
-    best
+    with_video(s, n, Fault::Shared, space, best)
 }

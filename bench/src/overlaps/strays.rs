@@ -1,9 +1,11 @@
 // Numbers 13 and 14: the least target that a port holds and its parent does not claim.
+use crate::chassis::Fault;
 use crate::ids::PortNo;
 use crate::ids::Space;
 use crate::least::Found;
 use crate::overlaps::meetings::least_meeting;
 use crate::overlaps::meetings::Holding;
+use crate::overlaps::video::with_video;
 use crate::trees::kind_at;
 use crate::trees::parent_at;
 
@@ -25,5 +27,5 @@ pub fn least_stray(s: &[u8], n: u8, space: Space) -> Found {
         best = with_child(s, space, PortNo(p), best);
         p += 1;
     }
-    best
+    with_video(s, n, Fault::Stray, space, best)
 }

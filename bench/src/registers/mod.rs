@@ -78,6 +78,23 @@ fn bridge_at(s: &[u8], r: usize) -> Bridge {
     }
 }
 
+// The Type 1 header registers of port p as far as they enable anything: Command and Bridge Control. The others are left 0.
+pub fn enables_of(s: &[u8], p: PortNo) -> Bridge {
+    let r = 16 + 56 * p.0 as usize;
+    Bridge {
+        command: u16_at(s, r + 4),
+        secondary: 0,
+        subordinate: 0,
+        memory_base: 0,
+        memory_limit: 0,
+        prefetchable_base: 0,
+        prefetchable_limit: 0,
+        prefetchable_base_upper: 0,
+        prefetchable_limit_upper: 0,
+        bridge_control: u16_at(s, r + 26),
+    }
+}
+
 // The FPB registers of the record that starts at r.
 fn fpb_at(s: &[u8], r: usize) -> Fpb {
     Fpb {

@@ -1,8 +1,9 @@
 // Which ports the check names: the first pair at a shared target, and the lowest port that strays or whose own ID is lost.
+mod faults;
 mod pairs;
 mod ports;
-mod video;
 
+pub use faults::at_fault;
 pub use pairs::Pair;
 pub use pairs::first_pair;
 pub use ports::PortFault;

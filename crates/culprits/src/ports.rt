@@ -1,7 +1,5 @@
-// Numbers 13 to 15: the lowest port that strays at a target, or whose own ID is lost; and one that is at fault by the video range.
-use crate::video::video_at_fault;
+// Numbers 13 to 15: the lowest port that strays at a target, or whose own ID is lost.
 use chassis::Conversion;
-use chassis::Fault;
 use chassis::ROOT_PORT;
 use claims::claims;
 use claims::conversion;
@@ -22,7 +20,6 @@ ghost use Rattle.culprits.specs.Culprits.{hasFault};
 // What may be wrong with a port by itself.
 pub enum PortFault {
     Stray(Target),
-    Video(Fault),
     Lost,
 }
 
@@ -56,13 +53,11 @@ fn own_id_lost<'a>(s: &'a [u8], patch: &'a [u8], p: PortNo) -> bool
 }
 
 // Whether a port has a fault.
-fn has_fault<'a>(s: &'a [u8], patch: &'a [u8], n: u8, fault: PortFault, p: PortNo) -> bool
-    requires { ⌜ n ≡ countOf (now s) ⌝ }
+fn has_fault<'a>(s: &'a [u8], patch: &'a [u8], fault: PortFault, p: PortNo) -> bool
     ensures { λ r. ⌜ r ≡ hasFault fault (chassisOver (now (s .entry)) (now (patch .entry))) (p .0) ⌝ }
 {
     match fault {
         PortFault::Stray(t) => strays_at(s, patch, t, p),
-        PortFault::Video(fault_there) => video_at_fault(s, patch, n, fault_there, p),
         PortFault::Lost => own_id_lost(s, patch, p),
     }
 }
@@ -74,7 +69,7 @@ pub fn lowest<'a>(s: &'a [u8], patch: &'a [u8], n: u8, fault: PortFault) -> Foun
 {
     let mut p: u8 = 0;
     while p < n {
-        if has_fault(s, patch, n, fault, PortNo(p)) {
+        if has_fault(s, patch, fault, PortNo(p)) {
             return Found::At(p as u64);
         }
         p += 1;

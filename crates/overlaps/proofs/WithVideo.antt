@@ -10,8 +10,8 @@ use Rattle.ids.specs.declared.Space.the-variants.{Ids, Addresses}
 use Rattle.ids.specs.declared.Target.{Target}
 use Rattle.ids.specs.declared.Target.the-variants.{Id, Addr}
 use Rattle.least.specs.declared.Found.the-variants.{At, Nothing}
-use Rattle.least.specs.Least.{firstIn, soonest}
-use Rattle.least.proofs.Laws.{is-at, is-none, first-agree}
+use Rattle.least.specs.Least.{soonest}
+use Rattle.least.proofs.Laws.{NoneIn, first-agree}
 use Rattle.chassis.specs.Chassis.{Chassis, isOwn, holds}
 use Rattle.chassis.specs.declared.Fault.{Fault}
 use Rattle.chassis.specs.declared.Fault.the-variants.{Shared, Stray}
@@ -21,24 +21,19 @@ use Rattle.chassis.proofs.Bools.{and-true-parts, or-false-parts}
 use Rattle.chassis.proofs.Ports.{SomeBelow, NoneBelow, anyBelow-true, anyBelow-at, anyBelow-false}
 use Rattle.claims.specs.Beside.{withoutVideo}
 use Rattle.claims.proofs.OfVideo.{OfVideo}
-use Rattle.culprits.specs.Culprits.{videoAtFault}
-use Rattle.overlaps.specs.Overlaps.{leastOfVideo}
+use Rattle.overlaps.specs.Overlaps.{videoAtFault, leastOfVideo}
 use Rattle.overlaps.proofs.Clashes.{clash-turned}
 use Rattle.overlaps.proofs.Apart.{apart-first}
 
 -- a port that claims the video range and is at fault there was found, or there is none
 module _ (fault : Fault) (c : Chassis) where
-  pub video-at : {p : ℕ} → At p ≡ firstIn (videoAtFault fault c) 0 (c .tree .count) → At 0xA0000 ≡ leastOfVideo fault c
+  pub video-at : {p : ℕ} → p < c .tree .count → videoAtFault fault c p ≡ true → At 0xA0000 ≡ leastOfVideo fault c
   unfolding leastOfVideo
-  video-at {p} e =
-      let a = is-at (videoAtFault fault c) 0 (c .tree .count) e in
-      rw (anyBelow-at (videoAtFault fault c) (c .tree .count) p (a .below) (a .holds))
+  video-at {p} l e = rw (anyBelow-at (videoAtFault fault c) (c .tree .count) p l e)
 
-  pub video-none : Nothing ≡ firstIn (videoAtFault fault c) 0 (c .tree .count) → Nothing ≡ leastOfVideo fault c
+  pub video-none : {p n : ℕ} → NoneIn (videoAtFault fault c) 0 p → n ≤ p → n ≡ c .tree .count → Nothing ≡ leastOfVideo fault c
   unfolding leastOfVideo
-  video-none e =
-      let none = is-none (videoAtFault fault c) 0 (c .tree .count) e in
-      rw (anyBelow-false (videoAtFault fault c) (c .tree .count) .1 (λ p l. none .none p zero-le l))
+  video-none none l e = rw (anyBelow-false (videoAtFault fault c) (c .tree .count) .1 (λ q k. none .none q zero-le (omega arith)))
 
 -- whether a fault is at a target, by the tree and by what each port owns and claims
 clashBy : Tree → (ℕ → Bool) → (ℕ → Bool) → ℕ → ℕ → Bool

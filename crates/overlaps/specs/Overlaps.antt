@@ -2,13 +2,13 @@
 use Prim.Native.Nat.{ℕ}
 use mathlib.Core.Bool.{Bool, cond, _&&_, _||_, Bool·beq}
 use Rattle.ids.specs.declared.Target.{Target}
+use Rattle.ids.specs.declared.Target.the-variants.{Addr}
 use Rattle.least.specs.declared.Found.{Found}
 use Rattle.least.specs.declared.Found.the-variants.{At, Nothing}
 use Rattle.chassis.specs.Chassis.{Chassis, isOwn}
 use Rattle.chassis.specs.declared.Fault.{Fault}
 use Rattle.chassis.specs.Check.{clash, atFault}
 use Rattle.chassis.specs.Tree.{anyBelow}
-use Rattle.culprits.specs.Culprits.{videoAtFault}
 use Rattle.overlaps.specs.declared.meetings.Holding.{Holding}
 
 -- the port's own ID, where that is looked at, or claimed by it, where that is
@@ -26,6 +26,10 @@ clashOf c p q t = clash c t p q
 unfoldable pub faultyTo : Fault → Chassis → ℕ → Target → Bool
 faultyTo fault c k t = anyBelow (atFault fault c t) k
 
--- the first address of the video range, where a port that claims it is at fault there
+-- a port that claims the video range is at fault at its first address
+unfoldable pub videoAtFault : Fault → Chassis → ℕ → Bool
+videoAtFault fault c p = c .decoders p (Addr 0xA0000) .vga && atFault fault c (Addr 0xA0000) p
+
+-- that address, where there is such a port
 unfoldable pub leastOfVideo : Fault → Chassis → Found
 leastOfVideo fault c = cond (anyBelow (videoAtFault fault c) (c .tree .count)) (At 0xA0000) Nothing

@@ -40,7 +40,7 @@ lowest-spec =
     Inv-loop
     μ-loop
     loop-holds
-    (λ c κs. c .before .before .before .before .pre)
+    (λ c κs. tt)
     (λ c. omega arith)
     returns
     (λ c. omega arith)

@@ -1,7 +1,7 @@
-use Rattle.culprits.specs.Culprits.{videoAtFault}
+use Rattle.overlaps.specs.Overlaps.{videoAtFault}
 use borrow.Author.Needs.{needs}
-use Rattle.culprits.proofs.video.video_at_fault.Statement.{statement}
-use Rattle.culprits.proofs.video.video_at_fault.Tie as tie
+use Rattle.overlaps.proofs.video.video_at_fault.Statement.{statement}
+use Rattle.overlaps.proofs.video.video_at_fault.Tie as tie
 
 returns : tie.Need-returns
 unfolding videoAtFault

@@ -1,6 +1,6 @@
 use borrow.Author.Needs.{needs}
-use Rattle.culprits.proofs.video.at_fault.Statement.{statement}
-use Rattle.culprits.proofs.video.at_fault.Tie as tie
+use Rattle.culprits.proofs.faults.at_fault.Statement.{statement}
+use Rattle.culprits.proofs.faults.at_fault.Tie as tie
 
 returns : tie.Need-returns
 returns c = rw (c .before .enum-told .given .1) (c .clashes-with .ensures)
