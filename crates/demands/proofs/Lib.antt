@@ -7,3 +7,4 @@ pub mod Worked
 pub mod WorkedWalks
 pub mod Doubled
 pub mod WorkedTrial
+pub mod WorkedVideo

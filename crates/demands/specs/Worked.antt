@@ -1,6 +1,7 @@
 -- A worked chassis, so that no demand is empty: a picture of a root port, a switch below it, and a device below each of its two
 -- downstream ports. It passes the check (proofs/Worked.antt), and walks through it are computed (proofs/WorkedWalks.antt); a picture
--- that differs in one port's bus fails (proofs/Doubled.antt). With patches, so that no trial is empty either: proofs/WorkedTrial.antt.
+-- that differs in one port's bus fails (proofs/Doubled.antt), and so does one of two displays (proofs/WorkedVideo.antt). With patches,
+-- so that no trial is empty either: proofs/WorkedTrial.antt.
 use Prim.Native.Nat.{ℕ, zero, suc, _+_, _*_, _/_, _%_}
 use mathlib.Core.List.{List, [], _∷_, _++_}
 use Rattle.chassis.specs.declared.End.{End}
@@ -56,6 +57,25 @@ worked = switchWith 4
 -- both downstream ports have bus 3
 abbrev pub doubled : List ℕ
 doubled = switchWith 3
+
+-- a root port with Memory Space Enable and VGA Enable (Bridge Control 8), without buses, windows and vectors
+unfoldable pub displayOf : ℕ → List ℕ
+displayOf own =
+    (0 ∷ 255 ∷ [])
+    ++ u16 own
+    ++ u16 2
+    ++ zeros 2
+    ++ u16 0xFFF0
+    ++ u16 0
+    ++ u16 0xFFF0
+    ++ zeros 12
+    ++ u16 8
+    ++ zeros 24
+    ++ u32 128
+
+-- two displays at one place
+unfoldable pub displays : List ℕ
+displays = headerFor 2 ++ displayOf 0x0008 ++ displayOf 0x0010
 
 -- the patch of no ports
 abbrev pub nothing : List ℕ
