@@ -1,9 +1,8 @@
 -- The chassis of a picture, with the video range and without it. Assumes nothing.
 use Prim.Native.Nat.{ℕ, _^_, _≤_, _<_}
-use mathlib.Core.Bool.{Bool, true, false, _&&_, _||_, and-true, and-false, or-false}
+use mathlib.Core.Bool.{Bool, false, _&&_, _||_, and-true, and-false}
 use mathlib.Core.List.{List}
-use mathlib.Core.Path.{_≡_, _∙_, sym, ap}
-use native.Mathlib.Decide.{decLt}
+use mathlib.Core.Path.{_≡_, _∙_, sym}
 use native.Mathlib.Omega.{arith}
 use borrow.Author.Tests.{le-leb, lt-leb}
 use Rattle.ids.specs.declared.Rid.{Rid}
@@ -13,7 +12,7 @@ use Rattle.chassis.specs.Chassis.{Chassis}
 use Rattle.registers.specs.declared.Bridge.{Bridge}
 use Rattle.registers.specs.declared.Mechanism.{Mechanism}
 use Rattle.registers.specs.Record.{portAt}
-use Rattle.claims.specs.Decoders.{between, memorySpaceEnabled, vgaEnabled, videoClaims, decodersOf, addressDecoders}
+use Rattle.claims.specs.Decoders.{memorySpaceEnabled, vgaEnabled, videoClaims, decodersOf}
 use Rattle.claims.specs.Claims.{chassisWith}
 use Rattle.claims.specs.Beside.{withoutVideo}
 use Rattle.claims.proofs.Joined.{with-video, vga-of-id, vga-of-address}

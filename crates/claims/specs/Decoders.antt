@@ -71,8 +71,7 @@ memorySpaceEnabled b = eqb (field (b .command) 1 1) 1
 abbrev pub noDecoders : Decoders
 noDecoders = record { bus = false; rid = false; mem = false; pref = false; low = false; high = false; vga = false }
 
--- 02, Item 4, of 01's "These are all the decoders.": "It does not: document 001 lists more", of which vga joins and Enhanced Allocation stays
--- out. Item 3: "The claim answer must name all decoders that claim the target"
+-- 02, Item 3: "The claim answer must name all decoders that claim the target"
 unfoldable pub idDecoders : Port → (Mechanism → List ℕ) → ℕ → Decoders
 idDecoders p vector rid =
     record {
@@ -85,7 +84,8 @@ idDecoders p vector rid =
       vga = false;
     }
 
--- addresses "only with Memory Space Enable set"
+-- addresses "only with Memory Space Enable set". 02, Item 4, of 01's "These are all the decoders.": document 001 "lists more", of which
+-- vga joins and "Enhanced Allocation stays out"
 unfoldable pub addressDecoders : Port → (Mechanism → List ℕ) → ℕ → Decoders
 addressDecoders p vector a =
     cond (memorySpaceEnabled (p .bridge))

@@ -38,6 +38,7 @@ ghost use Rattle.registers.specs.Rules.{withAri};
 ghost use Rattle.patches.specs.Halves.{vectorOver};
 ghost use Rattle.claims.specs.Decoders.{noDecoders, idDecoders, addressDecoders};
 ghost use Rattle.claims.specs.Over.{chassisOver};
+ghost use Rattle.claims.specs.Beside.{videoFirst};
 
 // No decoder claims the target.
 fn no_decoders() -> Decoders
@@ -133,7 +134,7 @@ pub fn hold_of<'a>(s: &'a [u8], patch: &'a [u8], p: PortNo, t: Target) -> Hold
 
 // Whether port p claims the video range, whatever the patch; two reads of its record.
 pub fn claims_video(s: &[u8], p: PortNo) -> bool
-    ensures { λ r. ⌜ ((patch : List ℕ) → r ≡ chassisOver (now (s .entry)) patch .decoders (p .0) (Addr 0xA0000) .vga) ⌝ }
+    ensures { λ r. ⌜ ((patch : List ℕ) → r ≡ chassisOver (now (s .entry)) patch .decoders (p .0) (Addr videoFirst) .vga) ⌝ }
 {
     let b = enables_of(s, p);
     memory_space_enabled(b) & vga_enabled(b)

@@ -1,4 +1,5 @@
-// Which ports the check names: the first pair at a shared target, and the lowest port that strays or whose own ID is lost.
+// Which ports the check names: the first pair at a shared target, and the lowest port that strays or whose own ID is lost; and
+// whether one port is at fault at a target.
 mod faults;
 mod pairs;
 mod ports;

@@ -1,4 +1,4 @@
--- What a port holds or claims in one space, as ranges and grids. What is off is an empty range.
+-- What a port holds or claims in one space beside the video range, as ranges and grids. What is off is an empty range.
 mod Words
 use Words.*
 
@@ -40,7 +40,7 @@ addressReach p on =
       other = gridIf on (p .fpb) High (2 ^ 32) (2 ^ 64 - 1);
     }
 
--- the port's own ID, where `own`, and what it claims, where `claims`; an own ID is no address
+-- the port's own ID, where `own`, and what it claims beside the video range, where `claims`; an own ID is no address
 abbrev pub reachOf : Port → Space → Bool → Bool → Reach
 reachOf p Ids own claims = idReach p own claims
 reachOf p Addresses own claims = addressReach p (claims && memorySpaceEnabled (p .bridge))

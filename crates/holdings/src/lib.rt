@@ -1,4 +1,4 @@
-// What a port holds or claims in one space, as ranges and grids for a search.
+// What a port holds or claims in one space beside the video range, as ranges and grids for a search.
 mod reaches;
 
 use ids::PortNo;

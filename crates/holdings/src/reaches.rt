@@ -1,4 +1,4 @@
-// The reach of a port in one space: its decoders as ranges and grids.
+// The reach of a port in one space: its decoders but vga, as ranges and grids.
 use claims::base_of;
 use claims::memory_space_enabled;
 use claims::upper_of;
@@ -91,7 +91,7 @@ fn id_reach(p: Port, own: bool, claims: bool) -> Reach
     }
 }
 
-// Addresses: the memory decoders.
+// Addresses: the memory decoders but vga.
 fn address_reach(p: Port, on: bool) -> Reach
     ensures { λ r. ⌜ r ≡ addressReach p on ⌝ }
     ensures { λ r. ⌜ fits r × endsIn Addresses r ⌝ }

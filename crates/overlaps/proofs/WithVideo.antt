@@ -18,7 +18,7 @@ use Rattle.chassis.specs.declared.Fault.the-variants.{Shared, Stray}
 use Rattle.chassis.specs.Check.{clash, clashesWith, straysAt, atFault, faulty, testIn, leastTarget}
 use Rattle.chassis.specs.Tree.{Tree, rootPort, standsAt, anyBelow}
 use Rattle.chassis.proofs.Bools.{and-true-parts, or-false-parts}
-use Rattle.chassis.proofs.Ports.{SomeBelow, NoneBelow, anyBelow-true, anyBelow-at, anyBelow-false}
+use Rattle.chassis.proofs.Ports.{NoneBelow, anyBelow-true, anyBelow-at, anyBelow-false}
 use Rattle.claims.specs.Beside.{withoutVideo}
 use Rattle.claims.proofs.OfVideo.{OfVideo}
 use Rattle.overlaps.specs.Overlaps.{videoAtFault, leastOfVideo}

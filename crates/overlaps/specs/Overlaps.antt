@@ -1,4 +1,5 @@
--- What two ports have to do with a target, as tests of the target that a search for the least one runs over.
+-- What two ports have to do with a target, as tests of the target that a search for the least one runs over; and the video range, which
+-- is looked at apart.
 use Prim.Native.Nat.{ℕ}
 use mathlib.Core.Bool.{Bool, cond, _&&_, _||_, Bool·beq}
 use Rattle.ids.specs.declared.Target.{Target}
@@ -9,6 +10,7 @@ use Rattle.chassis.specs.Chassis.{Chassis, isOwn}
 use Rattle.chassis.specs.declared.Fault.{Fault}
 use Rattle.chassis.specs.Check.{clash, atFault}
 use Rattle.chassis.specs.Tree.{anyBelow}
+use Rattle.claims.specs.Beside.{videoFirst}
 use Rattle.overlaps.specs.declared.meetings.Holding.{Holding}
 
 -- the port's own ID, where that is looked at, or claimed by it, where that is
@@ -28,8 +30,8 @@ faultyTo fault c k t = anyBelow (atFault fault c t) k
 
 -- a port that claims the video range is at fault at its first address
 unfoldable pub videoAtFault : Fault → Chassis → ℕ → Bool
-videoAtFault fault c p = c .decoders p (Addr 0xA0000) .vga && atFault fault c (Addr 0xA0000) p
+videoAtFault fault c p = c .decoders p (Addr videoFirst) .vga && atFault fault c (Addr videoFirst) p
 
 -- that address, where there is such a port
 unfoldable pub leastOfVideo : Fault → Chassis → Found
-leastOfVideo fault c = cond (anyBelow (videoAtFault fault c) (c .tree .count)) (At 0xA0000) Nothing
+leastOfVideo fault c = cond (anyBelow (videoAtFault fault c) (c .tree .count)) (At videoFirst) Nothing

@@ -1,4 +1,4 @@
-// The least target that two ports have to do with.
+// The least target that two ports have to do with, beside the video range.
 use holdings::one_of;
 use holdings::reach_at;
 use ids::PortNo;

@@ -1,4 +1,5 @@
-// Numbers 11 and 12: the least target that two ports at one place hold, or that is the own ID of a port that claims it.
+// Numbers 11 and 12, beside the video range: the least target that two ports at one place hold, or that is the own ID of a port
+// that claims it.
 use crate::meetings::Holding;
 use crate::meetings::least_meeting;
 use ids::PortNo;

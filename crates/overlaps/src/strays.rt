@@ -1,4 +1,4 @@
-// Numbers 13 and 14: the least target that a port holds and its parent does not claim.
+// Numbers 13 and 14, beside the video range: the least target that a port holds and its parent does not claim.
 use crate::meetings::Holding;
 use crate::meetings::least_meeting;
 use chassis::ROOT_PORT;

@@ -1,4 +1,5 @@
-// The video range in the search: all else that ports claim is whole MiB, and of this range only the first address can be the least.
+// The video range in the search: of the addresses all else that ports claim is whole MiB, so of this range only the first can be
+// the least.
 use chassis::Fault;
 use claims::VIDEO_FIRST;
 use claims::claims_video;

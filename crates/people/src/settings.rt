@@ -113,7 +113,7 @@ fn say_prefetchable(b: Bridge) {
     say_window(b"prefetchable", base, limit, 8);
 }
 
-// The windows in use, or that Memory Space Enable is off.
+// The windows and the video range in use, or that Memory Space Enable is off.
 pub fn say_windows(b: Bridge) {
     if !memory_space_enabled(b) {
         say(b"; memory space off");

@@ -1,4 +1,4 @@
-// Where a port's record starts, and the fields of it that the tree is made of, each by one read.
+// Where a port's record starts, and some fields of it by a read each: those of the tree, the vectors' sizes and start, the enables.
 use crate::Bridge;
 use crate::Fpb;
 use ids::PortNo;

@@ -1,10 +1,6 @@
-use Prim.Native.Nat.{ℕ}
-use mathlib.Core.List.{List}
-use mathlib.Core.Path.{sym}
 use native.Mathlib.Omega.{arith}
 use borrow.Author.Needs.{needs}
 use Rattle.registers.specs.Record.{portAt}
-use Rattle.patches.specs.Halves.{vectorOver}
 use Rattle.claims.specs.Decoders.{memorySpaceEnabled, vgaEnabled}
 use Rattle.claims.proofs.Joined.{vga-of-address}
 use Rattle.claims.proofs.OfVideo.{video-inside}
