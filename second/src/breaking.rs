@@ -138,7 +138,7 @@ fn ports_with_siblings(picture: &Picture) -> Vec<usize> {
 }
 
 /// Two ports at one place, in any order; one port twice if none has company.
-fn two_siblings(random: &mut Random, picture: &Picture) -> (usize, usize) {
+pub fn two_siblings(random: &mut Random, picture: &Picture) -> (usize, usize) {
     let choice = ports_with_siblings(picture);
     if choice.is_empty() {
         let port = any_port(random, picture);

@@ -7,6 +7,7 @@ use crate::claim_calls::{claim_calls, claim_calls_on_nothing, holders_call};
 use crate::claims::{bus, unit};
 use crate::draft::{Draft, DraftPort, Which, NO_PARENT, ROOT, UPSTREAM};
 use crate::judge::Judge;
+use crate::meetings::meeting;
 use crate::picture::{read, Picture, Port, Refusal, Target, Vector, FOUR_GIB};
 use crate::random::Random;
 use crate::samples::{sample, SAMPLE_NAMES};
@@ -33,14 +34,26 @@ pub const LONG_IDS: [u64; 4] = [0x1_0000, 0x1_0308, 0x1_0000_0000, u64::MAX];
 /// 12 for the video range.
 const TURNS: [u8; 17] = [1, 6, 2, 8, 3, 9, 6, 4, 11, 12, 5, 8, 7, 6, 9, 10, 15];
 
+/// One of so many pictures of a batch has two ports that meet.
+const MEETING_EVERY: u64 = 8;
+
+/// How often a picture that reads is asked for a walk of each kind; fewer where two ports meet, in a small one.
+const ROUNDS: usize = 12;
+const ROUNDS_AT_A_MEETING: usize = 6;
+
 /// A batch of so many pictures; the same seed gives the same batch.
 pub fn generate(seed: u64, count: u64) -> Vec<u8> {
     let mut batch = Vec::new();
     for index in 0..count {
         let random = &mut random_of(seed, index);
-        let picture = random_picture(random);
+        let meets = index % MEETING_EVERY == MEETING_EVERY - 1;
+        let picture = match meets {
+            true => meeting(random, index / MEETING_EVERY),
+            false => random_picture(random),
+        };
         let judge = Judge::new(&picture);
-        write_with_calls(random, &picture, &judge, &mut batch);
+        let rounds = if meets { ROUNDS_AT_A_MEETING } else { ROUNDS };
+        write_with_calls(random, &picture, &judge, rounds, &mut batch);
         write_trials(&mut random_of_trials(seed, index), &picture, &judge, &mut batch);
     }
     batch
@@ -206,13 +219,13 @@ pub fn sound_draft(random: &mut Random) -> Draft {
     fill(random, ports, &taste)
 }
 
-/// Writes a picture, its report and check, and calls that suit it.
-fn write_with_calls(random: &mut Random, picture: &[u8], judge: &Judge, batch: &mut Vec<u8>) {
+/// Writes a picture, its report and check, and calls that suit it, with so many rounds of walks.
+fn write_with_calls(random: &mut Random, picture: &[u8], judge: &Judge, rounds: usize, batch: &mut Vec<u8>) {
     Record::Picture(picture.to_vec()).write(batch);
     Record::Report.write(batch);
     Record::Check.write(batch);
     let mut calls = match judge.reading() {
-        Ok(picture) => calls_on(random, picture),
+        Ok(picture) => calls_on(random, picture, rounds),
         Err(_) => calls_on_nothing(random),
     };
     if let (Ok(picture), Err(Refusal { target: Some(least), .. })) = (judge.reading(), judge.check()) {
@@ -247,10 +260,11 @@ fn calls_on_nothing(random: &mut Random) -> Vec<Record> {
     [vec![walk], claim_calls_on_nothing(random)].concat()
 }
 
-/// Calls on a picture that reads: all kinds, with targets at and around the edges of its ports.
-fn calls_on(random: &mut Random, picture: &Picture) -> Vec<Record> {
+/// Calls on a picture that reads: all kinds, with targets at and around the edges of its ports, and so many rounds
+/// of walks.
+fn calls_on(random: &mut Random, picture: &Picture, rounds: usize) -> Vec<Record> {
     let mut calls = Vec::new();
-    for _ in 0..12 {
+    for _ in 0..rounds {
         for kind in 0..3 {
             calls.push(walk_call(random, picture, kind));
         }

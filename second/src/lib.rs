@@ -12,6 +12,7 @@ pub mod explain;
 pub mod explain_trial;
 pub mod generate;
 pub mod judge;
+pub mod meetings;
 pub mod pairs;
 pub mod pairs_accepted;
 pub mod pairs_refused;

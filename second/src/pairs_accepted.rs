@@ -13,11 +13,12 @@ use crate::picture::Refusal;
 use crate::random::Random;
 
 /// Clear, then 11 to 15, then 1 to 10.
-pub const ACCEPTED: [Turn; 12] = [
+pub const ACCEPTED: [Turn; 13] = [
     clear,
     clear_again,
     shared_id,
     claimed_own_id,
+    twice_claimed_own_id,
     shared_address,
     shared_high,
     shared_video,
@@ -126,8 +127,16 @@ fn setting_entry(entry: u16) -> Vec<u8> {
     PatchDraft::of(&[NewVectors { port: 0, bytes }]).bytes()
 }
 
-/// Number 11: a port claims its own ID by its bus pair, and by its new vector too.
+/// Number 11: by its new vector a port claims its own ID; without it nothing does.
 fn claimed_own_id(random: &mut Random) -> Pair {
+    let (first_unit, entry) = (random.below(7_000) as u16, random.below(256) as u16);
+    let own_id = 8 * (first_unit + entry) + random.below(8) as u16;
+    let port = with_rid_vector(DraftPort::silent(ROOT, NO_PARENT, own_id), first_unit);
+    Pair { picture: Draft::of(vec![port]).bytes(), patch: setting_entry(entry) }
+}
+
+/// Number 11: a port claims its own ID by its bus pair, and by its new vector too.
+fn twice_claimed_own_id(random: &mut Random) -> Pair {
     let (first_unit, entry) = (random.between(32, 7_000) as u16, random.below(256) as u16);
     let own_id = 8 * (first_unit + entry) + random.below(8) as u16;
     let port = DraftPort::silent(ROOT, NO_PARENT, own_id).buses(bus(own_id), bus(own_id));

@@ -353,20 +353,22 @@ fn every_set_of_decoders_occurs_in_the_lines_of_11_to_14() {
     of(13, &["own"]);
     of(13, &OF_IDS);
     of(14, &OF_ADDRESSES);
+    of(12, &OF_VIDEO);
     counts.have(10, &["12 vga, vga", "14 vga"]);
-    counts.have(2, &["12 mem vga", "12 pref vga", "12 low vga", "12 mem pref low vga"]);
     counts.have(2, &["12 vga, mem", "12 vga, mem vga", "12 low vga, vga"]);
     counts.have(10, &["itself own bus", "itself own rid", "itself own bus rid"]);
-    counts.have(2, &["11 own, own", "11 own, bus", "11 bus, own", "11 own, rid", "11 bus, own rid"]);
+    counts.have(2, &["11 own, own", "11 own, bus", "11 bus, own", "11 own, rid", "11 rid, own"]);
     counts.have(
         2,
-        &["11 bus, rid", "11 rid, bus", "11 own, own bus", "11 bus, bus rid", "11 bus rid, own rid"],
+        &["11 bus, rid", "11 rid, bus", "11 own, own rid", "11 rid, bus rid", "11 bus rid, bus rid"],
     );
+    counts.have(2, &["11 own, own bus", "11 bus, own rid", "11 bus, bus rid", "11 bus rid, own rid"]);
     counts.have(
         2,
         &["12 mem, pref", "12 pref, mem", "12 mem, low", "12 low, mem", "12 pref, low", "12 low, pref"],
     );
-    counts.have(2, &["12 high, high", "12 pref high, high", "12 mem low, mem pref", "12 low, mem pref"]);
+    counts.have(2, &["12 pref, high", "12 high, pref high", "12 mem low, mem pref", "12 pref high, pref"]);
+    counts.have(2, &["12 high, high", "12 pref high, high", "12 low, mem pref"]);
 }
 
 #[test]

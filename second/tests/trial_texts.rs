@@ -271,15 +271,29 @@ fn both_sides_of_every_form_occur() {
 #[test]
 fn each_turn_gives_its_number_for_every_seed() {
     for seed in 1..=5 {
-        let numbers: Vec<u8> = pairs(seed, 35)
+        let numbers: Vec<u8> = pairs(seed, 36)
             .map(|pair| {
                 Judge::of_trial(&pair.picture, &pair.patch).check().map_or_else(|found| found.number, |()| 0)
             })
             .collect();
         let wanted = [vec![30; 11], vec![31; 5], vec![32; 6]].concat();
         assert_eq!(numbers[..22], wanted, "seed {seed}");
-        assert_eq!(numbers[23..34], [0, 0, 11, 11, 12, 12, 12, 13, 14, 15, 15], "seed {seed}");
-        assert!((1..=10).contains(&numbers[34]), "seed {seed}");
+        assert_eq!(numbers[23..35], [0, 0, 11, 11, 11, 12, 12, 12, 13, 14, 15, 15], "seed {seed}");
+        assert!((1..=10).contains(&numbers[35]), "seed {seed}");
+    }
+}
+
+#[test]
+fn an_own_id_is_claimed_by_the_new_vector_alone_and_with_the_bus_range() {
+    for seed in 1..=5 {
+        let drawn: Vec<_> = pairs(seed, 28).skip(26).collect();
+        for (pair, before, after) in [(&drawn[0], "clear", "own rid"), (&drawn[1], "own bus", "own bus rid")]
+        {
+            let alone = Judge::new(&pair.picture).report();
+            let tried = Judge::of_trial(&pair.picture, &pair.patch).report();
+            assert!(alone.ends_with(&format!("{before}\n")), "seed {seed}: {alone}");
+            assert!(tried.ends_with(&format!(" 0 by {after} 0 by {after}\n")), "seed {seed}: {tried}");
+        }
     }
 }
 
