@@ -41,7 +41,7 @@ sow() {
     case $text in *"$2"*) ;; *) echo "no such text in $1: $2"; exit 1 ;; esac
     text=${text/"$2"/"$3"}
     printf '%s' "${text%.}" >"$work/copy/src/$1"
-    (cd "$work/copy" && CARGO_TARGET_DIR=$work/target cargo build --release --offline --quiet 2>"$work/log") || { cat "$work/log"; exit 1; }
+    (cd "$work/copy" && CARGO_INCREMENTAL=1 CARGO_TARGET_DIR=$work/target cargo build --release --offline --quiet 2>"$work/log") || { cat "$work/log"; exit 1; }
 }
 
 # bug FILE WORDS OLD NEW: one that answers must show
