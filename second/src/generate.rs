@@ -31,8 +31,8 @@ pub const BAD_KINDS: [u32; 5] = [3, 255, 256, 258, u32::MAX];
 pub const LONG_IDS: [u64; 4] = [0x1_0000, 0x1_0308, 0x1_0000_0000, u64::MAX];
 
 /// Numbers in turn, those whose sentences have many forms more than once; 11 is for own IDs that are claimed,
-/// 12 for the video range.
-const TURNS: [u8; 17] = [1, 6, 2, 8, 3, 9, 6, 4, 11, 12, 5, 8, 7, 6, 9, 10, 15];
+/// 12 for the video range, 13 by turns for a first child that is number 6 and for any other cause of it.
+const TURNS: [u8; 17] = [1, 6, 2, 8, 3, 9, 13, 4, 11, 12, 5, 8, 7, 6, 9, 10, 15];
 
 /// One of so many pictures of a batch has two ports that meet.
 const MEETING_EVERY: u64 = 8;
@@ -74,10 +74,13 @@ fn random_of_trials(seed: u64, index: u64) -> Random {
 pub fn pictures(seed: u64, count: u64) -> impl Iterator<Item = Vec<u8>> {
     (0..count).map(move |index| {
         let random = &mut random_of(seed, index);
-        match (index % 2, TURNS[index as usize / 2 % TURNS.len()]) {
+        let (round, turn) = (index as usize / 2 / TURNS.len(), index as usize / 2 % TURNS.len());
+        match (index % 2, TURNS[turn]) {
             (0, _) => random_picture(random),
             (_, 11) => twice_owned_picture(random),
             (_, 12) => video_picture(random),
+            (_, 13) if round % 2 == 1 => first_child_picture(random),
+            (_, 13) => refused_picture(random, 6),
             (_, 15) => unreached_picture(random),
             (_, number) => refused_picture(random, number),
         }
@@ -119,6 +122,14 @@ fn twice_owned_picture(random: &mut Random) -> Vec<u8> {
         second = second.buses(bus(own_id), bus(own_id));
     }
     Draft::of(vec![first, second]).bytes()
+}
+
+/// Number 6: an upstream port below another, which has no child of a lower number.
+fn first_child_picture(random: &mut Random) -> Vec<u8> {
+    let root = DraftPort::silent(ROOT, NO_PARENT, random.bits() as u16);
+    let upstream = DraftPort::silent(UPSTREAM, 0, random.bits() as u16);
+    let below = DraftPort::silent(UPSTREAM, 1, random.bits() as u16);
+    Draft::of(vec![root, upstream, below]).bytes()
 }
 
 /// Mostly number 12 or 14: a small picture that is sound but around the video range.
