@@ -10,13 +10,13 @@ use Rattle.ids.specs.declared.PortNo.{PortNo}
 use Rattle.ids.specs.declared.Target.{Target}
 use Rattle.ids.specs.declared.Target.the-variants.{Id, Addr}
 use Rattle.chassis.specs.declared.Fault.{Fault}
-use Rattle.chassis.specs.declared.Fault.the-variants.{Shared, Stray}
+use Rattle.chassis.specs.declared.Fault.the-variants.{Shared, Stray, Taken}
 use Rattle.chassis.specs.declared.Hold.{Hold}
 use Rattle.chassis.specs.declared.Verdict.{Verdict}
-use Rattle.chassis.specs.declared.Verdict.the-variants.{Clear, Shared as Found·Shared, Stray as Found·Stray, Lost}
+use Rattle.chassis.specs.declared.Verdict.the-variants.{Clear, Shared as Found·Shared, Stray as Found·Stray, Lost, Taken as Found·Taken}
 use Rattle.chassis.specs.Chassis.{Chassis, isOwn, holds}
-use Rattle.chassis.specs.Check.{clash, clashesWith, straysAt, ownIdLost, atFault, faulty, verdictOf}
-use Rattle.chassis.specs.Findings.{Lowest, LeastAt, NoneWith, ItsHold, Says}
+use Rattle.chassis.specs.Check.{clash, clashesWith, straysAt, ownIdLost, takes, takesAt, takenAt, atFault, faulty, verdictOf}
+use Rattle.chassis.specs.Findings.{Lowest, LeastAt, NoneWith, NoneLost, ItsHold, Says}
 use Rattle.chassis.specs.Tree.{rootPort, anyBelow}
 use Rattle.chassis.proofs.AlikeTrees.{AlikeTrees, Agree, any-agree}
 use Rattle.chassis.proofs.Tree.{Sane, other-parent}
@@ -60,6 +60,10 @@ module _ (c d : Chassis) (alike : Alike c d) where
   clash-alike t p l q m =
       rw (own-alike t p l, alike .claims p l t, alike .trees .parent p l, alike .trees .parent q m, holds-alike t p l, holds-alike t q m)
 
+  takes-alike : (t : Target) → Agree (c .tree .count) (takesAt c t) (takesAt d t)
+  takes-alike (Id rid) q l = ap takes (alike .conversion q l (Id rid))
+  takes-alike (Addr a) q l = refl
+
   any-alike : (f g : ℕ → Bool) → Agree (c .tree .count) f g → anyBelow f (c .tree .count) ≡ anyBelow g (d .tree .count)
   any-alike f g same = any-agree f g (c .tree .count) same ∙ ap (anyBelow g) (alike .trees .count)
 
@@ -88,10 +92,21 @@ module _ (c d : Chassis) (alike : Alike c d) (sane : Sane (c .tree)) where
           let converted = alike .conversion (c .tree .parent p) (omega arith) (Id (record { 0 = d .ownId p })) in
           rw (alike .trees .kind p l, alike .ownId p l, ← alike .trees .parent p l, claimed, converted)
 
+  taken-alike : (t : Target) → Agree (c .tree .count) (takenAt c t) (takenAt d t)
+  unfolding takenAt
+  taken-alike t p l = go (ℕ-discrete (c .tree .kind p) rootPort)
+    where
+      go : Dec (c .tree .kind p ≡ rootPort) → takenAt c t p ≡ takenAt d t p
+      go (yes top) = rw (← alike .trees .kind p l, eq-eqb (c .tree .kind p) rootPort top)
+      go (no other) =
+          let lower = other-parent (c .tree) sane p l other in
+          rw (alike .trees .kind p l, alike .claims p l t, ← alike .trees .parent p l, takes-alike c d alike t (c .tree .parent p) (omega arith))
+
   at-fault-alike : (fault : Fault) (t : Target) → Agree (c .tree .count) (atFault fault c t) (atFault fault d t)
   unfolding clashesWith
   at-fault-alike Shared t p l = any-alike c d alike (clash c t p) (clash d t p) (clash-alike c d alike t p l)
   at-fault-alike Stray t p l = stray-alike t p l
+  at-fault-alike Taken t p l = taken-alike t p l
 
   faulty-alike : (fault : Fault) (t : Target) → faulty fault c t ≡ faulty fault d t
   unfolding faulty
@@ -109,6 +124,9 @@ module _ (c d : Chassis) (alike : Alike c d) (sane : Sane (c .tree)) where
   none-alike : (fault : Fault) → NoneWith fault c → NoneWith fault d
   none-alike fault none t l = sym (faulty-alike fault t) ∙ none t l
 
+  none-lost-alike : NoneLost c → NoneLost d
+  none-lost-alike kept p l = sym (lost-alike p (rw (alike .trees .count) l)) ∙ kept p (rw (alike .trees .count) l)
+
   says-alike : (v : Verdict) → Says c v → Says d v
   says-alike (Found·Shared t h k) (least, second, first-hold, second-hold) = (
     least-alike least,
@@ -118,9 +136,16 @@ module _ (c d : Chassis) (alike : Alike c d) (sane : Sane (c .tree)) where
   )
   says-alike (Found·Stray t h) (none, least, hold) =
       (none-alike Shared none, least-alike least, hold-alike c d alike t h (least .port .below) hold)
-  says-alike (Lost p) (none, lowest) = (λ fault. none-alike fault (none fault), lowest-agree (alike .trees .count) lost-alike lowest)
-  says-alike Clear (none, kept) =
-      (λ fault. none-alike fault (none fault), λ p l. sym (lost-alike p (rw (alike .trees .count) l)) ∙ kept p (rw (alike .trees .count) l))
+  says-alike (Lost p) (unshared, unstrayed, lowest) =
+      (none-alike Shared unshared, none-alike Stray unstrayed, lowest-agree (alike .trees .count) lost-alike lowest)
+  says-alike (Found·Taken t h) (unshared, unstrayed, kept, least, hold) = (
+    none-alike Shared unshared,
+    none-alike Stray unstrayed,
+    none-lost-alike kept,
+    least-alike least,
+    hold-alike c d alike t h (least .port .below) hold,
+  )
+  says-alike Clear (none, kept) = (λ fault. none-alike fault (none fault), none-lost-alike kept)
 
   -- the check gives both the same verdict
   pub verdict-alike : verdictOf c ≡ verdictOf d

@@ -1,18 +1,20 @@
--- What the checks of 11 to 14 say of the ports.
+-- What the checks of 11 to 14 and 18 say of the ports.
 use Prim.Native.Nat.{ℕ, _<_}
-use mathlib.Core.Bool.{Bool, true, false, cond, _&&_}
+use mathlib.Core.Bool.{Bool, true, false, not, cond, _&&_, and-false}
 use mathlib.Core.Logic.{_↔_}
 use mathlib.Core.Path.{_≡_, refl}
 use lib.Dec.{eqb}
 use borrow.Author.Tests.{eqb-true, eqb-false, eq-eqb, ne-eqb}
+use Rattle.ids.specs.declared.Rid.{Rid}
 use Rattle.ids.specs.declared.Target.{Target}
+use Rattle.ids.specs.declared.Target.the-variants.{Id, Addr}
 use Rattle.chassis.specs.Chassis.{Chassis, isOwn, holds}
-use Rattle.chassis.specs.declared.Fault.the-variants.{Shared, Stray}
-use Rattle.chassis.specs.Check.{clash, clashesWith, straysAt, faulty}
+use Rattle.chassis.specs.declared.Fault.the-variants.{Shared, Stray, Taken}
+use Rattle.chassis.specs.Check.{clash, clashesWith, straysAt, takes, takenAt, faulty}
 use Rattle.chassis.specs.Findings.{Clash, between-two, with-itself, Clashing}
 use Rattle.chassis.specs.Tree.{rootPort, standsAt}
 use Rattle.chassis.proofs.Bools.{and-true-parts}
-use Rattle.chassis.proofs.Ports.{anyBelow-true, anyBelow-at}
+use Rattle.chassis.proofs.Ports.{anyBelow-true, anyBelow-at, anyBelow-false}
 
 module _ (c : Chassis) (t : Target) where
   clash-told : (p q : ℕ) → clash c t p q ≡ true → Clash c t p q
@@ -71,3 +73,18 @@ module _ (c : Chassis) (t : Target) where
   unfolding faulty straysAt
   stray-shown p l other held unclaimed =
       anyBelow-at (straysAt c t) (c .tree .count) p l (simp (ne-eqb _ _ other, held, unclaimed))
+
+module _ (c : Chassis) where
+  -- an ID is taken where a port that is no root port claims it and its parent takes requests for it
+  pub taken-shown : (rid : Rid) (p : ℕ) → p < c .tree .count → (c .tree .kind p ≡ rootPort → ⊥) → c .claims p (Id rid) ≡ true
+      → takes (c .conversion (c .tree .parent p) (Id rid)) ≡ true → faulty Taken c (Id rid) ≡ true
+  unfolding faulty takenAt
+  taken-shown rid p l other claimed taken =
+      anyBelow-at (takenAt c (Id rid)) (c .tree .count) p l (simp (ne-eqb _ _ other, claimed, taken))
+
+  -- no address is
+  pub no-address-taken : (a : ℕ) → faulty Taken c (Addr a) ≡ false
+  unfolding faulty takenAt
+  no-address-taken a =
+      anyBelow-false (takenAt c (Addr a)) (c .tree .count) .1
+      (λ p l. and-false (not (eqb (c .tree .kind p) rootPort) && c .claims p (Addr a)))

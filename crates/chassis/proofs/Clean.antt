@@ -25,6 +25,10 @@ pub claimed-held : (c : Chassis) (t : Target) (p : ℕ) → c .claims p t ≡ tr
 unfolding holds
 claimed-held c t p e = rw (e, or-true)
 
+pub own-held : (c : Chassis) (t : Target) (p : ℕ) → isOwn c t p ≡ true → holds c t p ≡ true
+unfolding holds
+own-held c t p e = rw e
+
 module _ (c : Chassis) (t : Target) (clean : Clean c t) where
   no-clash : (p q : ℕ) → p < c .tree .count → q < c .tree .count → Clash c t p q → ⊥
   no-clash p q l m k =
@@ -42,17 +46,21 @@ module _ (c : Chassis) (t : Target) (clean : Clean c t) where
       go (no other) =
           absurd (no-clash p q l m (between-two (record { distinct = other; one-place = place; first-holds = h; second-holds = k })))
 
-  -- a port that holds it is found alone where it stands
+  -- a port that passes a test which only its holders pass is found alone where it stands
+  pub sole-that-passes : (test : ℕ → Bool) → ((i : ℕ) → test i ≡ true → holds c t i ≡ true) → (p : ℕ) → p < c .tree .count
+      → test p ≡ true → lowestAt c (c .tree .parent p) test ≡ Only (portNo p)
+  sole-that-passes test held p l e =
+      lowestAt-is c (c .tree .parent p) test (Only (portNo p)) .1
+      (record { below = l; passes = passesAt-true c (c .tree .parent p) test p .1 (refl, e); only = only })
+    where
+      only : (i : ℕ) → i < c .tree .count → passesAt c (c .tree .parent p) test i ≡ true → i ≡ p
+      only i m passes =
+          let parts = passesAt-true c (c .tree .parent p) test i .0 passes in
+          one-holder i p m l (parts .0) (held i (parts .1)) (held p e)
+
   pub sole-where-it-stands : (p : ℕ) → p < c .tree .count → holds c t p ≡ true
       → lowestAt c (c .tree .parent p) (holds c t) ≡ Only (portNo p)
-  sole-where-it-stands p l h =
-      lowestAt-is c (c .tree .parent p) (holds c t) (Only (portNo p)) .1
-      (record { below = l; passes = passesAt-true c (c .tree .parent p) (holds c t) p .1 (refl, h); only = only })
-    where
-      only : (i : ℕ) → i < c .tree .count → passesAt c (c .tree .parent p) (holds c t) i ≡ true → i ≡ p
-      only i m e =
-          let parts = passesAt-true c (c .tree .parent p) (holds c t) i .0 e in
-          one-holder i p m l (parts .0) (parts .1) h
+  sole-where-it-stands = sole-that-passes (holds c t) (λ i e. e)
 
   -- no place has two holders
   pub never-two : (place : ℕ) (p q : PortNo) → lowestAt c place (holds c t) ≡ Both p q → ⊥

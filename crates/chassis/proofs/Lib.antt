@@ -10,6 +10,7 @@ pub mod Starts
 pub mod Ways
 pub mod Homeward
 pub mod Demand3
+pub mod EveryPort
 pub mod Verdicts
 pub mod NamedHold
 pub mod AlikeTrees

@@ -16,16 +16,17 @@ use Rattle.least.specs.declared.Found.the-variants.{At, Nothing}
 use Rattle.least.specs.Least.{firstIn}
 use Rattle.least.proofs.Laws.{LeastAt as FirstAt, Least, of-range}
 use Rattle.chassis.specs.declared.Fault.{Fault}
-use Rattle.chassis.specs.declared.Fault.the-variants.{Shared, Stray}
+use Rattle.chassis.specs.declared.Fault.the-variants.{Shared, Stray, Taken}
 use Rattle.chassis.specs.declared.Hold.{Hold}
 use Rattle.chassis.specs.declared.Verdict.{Verdict}
-use Rattle.chassis.specs.declared.Verdict.the-variants.{Clear, Shared as Found·Shared, Stray as Found·Stray, Lost}
+use Rattle.chassis.specs.declared.Verdict.the-variants.{Clear, Shared as Found·Shared, Stray as Found·Stray, Lost, Taken as Found·Taken}
 use Rattle.chassis.specs.Chassis.{Chassis, holdOf, targetIn}
 use Rattle.chassis.specs.Check.{clash, clashesWith, ownIdLost, atFault, faulty, leastTarget, found, lowestPort, firstOfPair, verdictAt, atLeast, lostAt, rowOf, orNext, verdictOf}
-use Rattle.chassis.specs.Findings.{Lowest, Earlier, LeastAt, NoneWith, ItsHold, Says}
+use Rattle.chassis.specs.Findings.{Lowest, Earlier, LeastAt, NoneWith, NoneLost, ItsHold, Says}
 use Rattle.chassis.specs.OneEnd.{InRange}
 use Rattle.chassis.specs.Tree.{anyBelow}
 use Rattle.chassis.proofs.Bools.{never-both-values}
+use Rattle.chassis.proofs.CheckLaws.{no-address-taken}
 use Rattle.chassis.proofs.LeastTarget.{leastTarget-is}
 use Rattle.chassis.proofs.Ports.{anyBelow-true}
 
@@ -77,14 +78,26 @@ module _ (c : Chassis) where
   unfolding clashesWith
   shared-at t least = (least, lowest-found c (clash c t (firstOfPair c t .0)) (least .port .passes), refl, refl)
 
-  neither : NoneWith Shared c → NoneWith Stray c → (fault : Fault) → NoneWith fault c
-  neither unshared unstrayed Shared = unshared
-  neither unshared unstrayed Stray = unstrayed
+  none-taken : leastTarget (faulty Taken c) Ids ≡ Nothing → NoneWith Taken c
+  none-taken no-id (Id rid) l = leastTarget-is (faulty Taken c) Ids Nothing .0 no-id .none (rid .0) zero-le l
+  none-taken no-id (Addr a) l = no-address-taken c a
 
-  lost-at : (f : Found) → ((fault : Fault) → NoneWith fault c) → Least (ownIdLost c) 0 (c .tree .count) f → Says c (orNext (lostAt f) Clear)
-  unfolding orNext
-  lost-at (At p) none a = (none, record { below = a .below; passes = a .holds; first = λ q l. a .first .none q zero-le l })
-  lost-at Nothing none kept = (none, λ p l. kept .none p zero-le l)
+  module _ (unshared : NoneWith Shared c) (unstrayed : NoneWith Stray c) where
+    of-each : NoneWith Taken c → (fault : Fault) → NoneWith fault c
+    of-each untaken Shared = unshared
+    of-each untaken Stray = unstrayed
+    of-each untaken Taken = untaken
+
+    taken-at : (g : Found) → NoneLost c → leastTarget (faulty Taken c) Ids ≡ g → Says c (orNext (atLeast c Taken Ids g) Clear)
+    unfolding orNext
+    taken-at (At n) kept e = (unshared, unstrayed, kept, least-id c Taken n e, refl)
+    taken-at Nothing kept e = (of-each (none-taken e), kept)
+
+    lost-at : (f g : Found) → Least (ownIdLost c) 0 (c .tree .count) f → leastTarget (faulty Taken c) Ids ≡ g
+        → Says c (orNext (lostAt f) (orNext (atLeast c Taken Ids g) Clear))
+    unfolding orNext
+    lost-at (At p) g a e = (unshared, unstrayed, record { below = a .below; passes = a .holds; first = λ q l. a .first .none q zero-le l })
+    lost-at Nothing g kept e = taken-at g (λ p l. kept .none p zero-le l) e
 
   -- the verdict says of the chassis what its row of the table says
   pub verdict-says : Says c (verdictOf c)
@@ -99,14 +112,16 @@ module _ (c : Chassis) where
           (orNext (atLeast c Shared Ids a)
           (orNext (atLeast c Shared Addresses b)
           (orNext (atLeast c Stray Ids d)
-          (orNext (atLeast c Stray Addresses e) (orNext (lostAt (firstIn (ownIdLost c) 0 (c .tree .count))) Clear)))))
+          (orNext (atLeast c Stray Addresses e)
+          (orNext (lostAt (firstIn (ownIdLost c) 0 (c .tree .count)))
+          (orNext (atLeast c Taken Ids (leastTarget (faulty Taken c) Ids)) Clear))))))
       go (At n) b d e ea eb ed ee = shared-at (targetIn Ids n) (least-id c Shared n ea)
       go Nothing (At n) d e ea eb ed ee = shared-at (targetIn Addresses n) (least-address c Shared n ea eb)
       go Nothing Nothing (At n) e ea eb ed ee = (none-with c Shared ea eb, least-id c Stray n ed, refl)
       go Nothing Nothing Nothing (At n) ea eb ed ee = (none-with c Shared ea eb, least-address c Stray n ed ee, refl)
       go Nothing Nothing Nothing Nothing ea eb ed ee =
-          lost-at (firstIn (ownIdLost c) 0 (c .tree .count)) (neither (none-with c Shared ea eb) (none-with c Stray ed ee))
-          (of-range (ownIdLost c) 0 (c .tree .count))
+          lost-at (none-with c Shared ea eb) (none-with c Stray ed ee) (firstIn (ownIdLost c) 0 (c .tree .count)) (leastTarget (faulty Taken c) Ids)
+          (of-range (ownIdLost c) 0 (c .tree .count)) refl
 
 lowest-one : {test : ℕ → Bool} {n : ℕ} {p q : PortNo} → Lowest test n p → Lowest test n q → p ≡ q
 lowest-one {p = p} {q} x y = ap portNo (go (decLt (p .0) (q .0)) (decLt (q .0) (p .0)))
@@ -133,7 +148,7 @@ module _ (c : Chassis) where
   not-least : {A : Type 0} {fault : Fault} {t : Target} {p : PortNo} → LeastAt fault c t p → NoneWith fault c → A
   not-least {t = t} x none = never-both-values _ (x .passes) (none t (x .in-range))
 
-  not-lowest : {A : Type 0} {p : PortNo} → Lowest (ownIdLost c) (c .tree .count) p → ((q : ℕ) → q < c .tree .count → ownIdLost c q ≡ false) → A
+  not-lowest : {A : Type 0} {p : PortNo} → Lowest (ownIdLost c) (c .tree .count) p → NoneLost c → A
   not-lowest {p = p} x kept = never-both-values _ (x .passes) (kept (p .0) (x .below))
 
   -- the hold of one port on one target is one
@@ -146,21 +161,32 @@ module _ (c : Chassis) where
       let second : q .port ≡ s .port = lowest-one (x .1) (rw (same .0, same .1) (y .1)) in
       cc (same .0, hold-one t u p r (same .0) (same .1) (x .2) (y .2), hold-one t u q s (same .0) second (x .3) (y .3))
   says-one (Found·Shared t p q) (Found·Stray u r) x y = not-least (x .0) (y .0)
-  says-one (Found·Shared t p q) (Lost r) x y = not-least (x .0) (y .0 Shared)
+  says-one (Found·Shared t p q) (Lost r) x y = not-least (x .0) (y .0)
+  says-one (Found·Shared t p q) (Found·Taken u r) x y = not-least (x .0) (y .0)
   says-one (Found·Shared t p q) Clear x y = not-least (x .0) (y .0 Shared)
   says-one (Found·Stray t p) (Found·Shared u r s) x y = not-least (y .0) (x .0)
   says-one (Found·Stray t p) (Found·Stray u r) x y =
       let same = least-one (x .1) (y .1) in
       cc (same .0, hold-one t u p r (same .0) (same .1) (x .2) (y .2))
-  says-one (Found·Stray t p) (Lost r) x y = not-least (x .1) (y .0 Stray)
+  says-one (Found·Stray t p) (Lost r) x y = not-least (x .1) (y .1)
+  says-one (Found·Stray t p) (Found·Taken u r) x y = not-least (x .1) (y .1)
   says-one (Found·Stray t p) Clear x y = not-least (x .1) (y .0 Stray)
-  says-one (Lost p) (Found·Shared u r s) x y = not-least (y .0) (x .0 Shared)
-  says-one (Lost p) (Found·Stray u r) x y = not-least (y .1) (x .0 Stray)
-  says-one (Lost p) (Lost r) x y = ap Lost (lowest-one (x .1) (y .1))
-  says-one (Lost p) Clear x y = not-lowest (x .1) (y .1)
+  says-one (Lost p) (Found·Shared u r s) x y = not-least (y .0) (x .0)
+  says-one (Lost p) (Found·Stray u r) x y = not-least (y .1) (x .1)
+  says-one (Lost p) (Lost r) x y = ap Lost (lowest-one (x .2) (y .2))
+  says-one (Lost p) (Found·Taken u r) x y = not-lowest (x .2) (y .2)
+  says-one (Lost p) Clear x y = not-lowest (x .2) (y .1)
+  says-one (Found·Taken t p) (Found·Shared u r s) x y = not-least (y .0) (x .0)
+  says-one (Found·Taken t p) (Found·Stray u r) x y = not-least (y .1) (x .1)
+  says-one (Found·Taken t p) (Lost r) x y = not-lowest (y .2) (x .2)
+  says-one (Found·Taken t p) (Found·Taken u r) x y =
+      let same = least-one (x .3) (y .3) in
+      cc (same .0, hold-one t u p r (same .0) (same .1) (x .4) (y .4))
+  says-one (Found·Taken t p) Clear x y = not-least (x .3) (y .0 Taken)
   says-one Clear (Found·Shared u r s) x y = not-least (y .0) (x .0 Shared)
   says-one Clear (Found·Stray u r) x y = not-least (y .1) (x .0 Stray)
-  says-one Clear (Lost r) x y = not-lowest (y .1) (x .1)
+  says-one Clear (Lost r) x y = not-lowest (y .2) (x .1)
+  says-one Clear (Found·Taken u r) x y = not-least (y .3) (x .0 Taken)
   says-one Clear Clear x y = refl
 
   -- each verdict is given exactly if what it says is so

@@ -7,10 +7,10 @@ use Rattle.ids.specs.declared.PortNo.{PortNo}
 use Rattle.ids.specs.declared.Target.{Target}
 use Rattle.ids.specs.declared.Target.the-variants.{Id, Addr}
 use Rattle.chassis.specs.declared.Fault.{Fault}
-use Rattle.chassis.specs.declared.Fault.the-variants.{Shared as OfShared, Stray as OfStray}
+use Rattle.chassis.specs.declared.Fault.the-variants.{Shared as OfShared, Stray as OfStray, Taken as OfTaken}
 use Rattle.chassis.specs.declared.Hold.{Hold}
 use Rattle.chassis.specs.declared.Verdict.{Verdict}
-use Rattle.chassis.specs.declared.Verdict.the-variants.{Clear, Shared, Stray, Lost}
+use Rattle.chassis.specs.declared.Verdict.the-variants.{Clear, Shared, Stray, Lost, Taken}
 use Rattle.chassis.specs.Chassis.{Chassis, isOwn, holds, holdOf}
 use Rattle.chassis.specs.Check.{clash, ownIdLost, atFault, faulty}
 use Rattle.chassis.specs.OneEnd.{InRange}
@@ -63,6 +63,9 @@ pub record LeastAt (fault : Fault) (c : Chassis) (t : Target) (p : PortNo) : Typ
 abbrev pub NoneWith : Fault → Chassis → Type 0
 NoneWith fault c = (t : Target) → InRange t → faulty fault c t ≡ false
 
+abbrev pub NoneLost : Chassis → Type 0
+NoneLost c = (p : ℕ) → p < c .tree .count → ownIdLost c p ≡ false
+
 -- a port is named with its own hold on the target
 abbrev pub ItsHold : Chassis → Target → Hold → Type 0
 ItsHold c t h = h ≡ holdOf c t (h .port .0)
@@ -72,5 +75,6 @@ abbrev pub Says : Chassis → Verdict → Type 0
 Says c (Shared t h k) =
     LeastAt OfShared c t (h .port) × Lowest (clash c t (h .port .0)) (c .tree .count) (k .port) × ItsHold c t h × ItsHold c t k
 Says c (Stray t h) = NoneWith OfShared c × LeastAt OfStray c t (h .port) × ItsHold c t h
-Says c (Lost p) = ((fault : Fault) → NoneWith fault c) × Lowest (ownIdLost c) (c .tree .count) p
-Says c Clear = ((fault : Fault) → NoneWith fault c) × ((p : ℕ) → p < c .tree .count → ownIdLost c p ≡ false)
+Says c (Lost p) = NoneWith OfShared c × NoneWith OfStray c × Lowest (ownIdLost c) (c .tree .count) p
+Says c (Taken t h) = NoneWith OfShared c × NoneWith OfStray c × NoneLost c × LeastAt OfTaken c t (h .port) × ItsHold c t h
+Says c Clear = ((fault : Fault) → NoneWith fault c) × NoneLost c

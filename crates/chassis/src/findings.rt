@@ -42,5 +42,10 @@ pub fn finding_of(v: Verdict) -> Finding
             target: Shown::NoTarget,
             ports: Named::Port(p),
         },
+        Verdict::Taken(t, p) => Finding {
+            number: 18,
+            target: Shown::Least(t),
+            ports: Named::Holder(p),
+        },
     }
 }

@@ -79,10 +79,12 @@ pub enum Step {
     Cross(PortNo, Whereabouts),
 }
 
-// What the check looks for at a target: 11 and 12, two ports that hold it; 13 and 14, a port that strays.
+// What the check looks for at a target: 11 and 12, two ports that hold it; 13 and 14, a port that strays; 18, a port that claims
+// it and whose parent takes configuration requests for it.
 pub enum Fault {
     Shared,
     Stray,
+    Taken,
 }
 
 // The rows of the table that the check looks at: a fault at a target of a space, and 15, an own ID that is lost.
@@ -91,13 +93,14 @@ pub enum Row {
     Lost,
 }
 
-// What the check finds: numbers 11 and 12 with the least target and the first pair, 13 and 14 with the least target and
+// What the check finds: numbers 11 and 12 with the least target and the first pair, 13, 14 and 18 with the least target and
 // the port, each port with its hold on the target; 15 with the port.
 pub enum Verdict {
     Clear,
     Shared(Target, Hold, Hold),
     Stray(Target, Hold),
     Lost(PortNo),
+    Taken(Target, Hold),
 }
 
 // The least target that a number of the table shows, where it shows one.

@@ -3,3 +3,4 @@ pub mod Laws
 pub mod Over
 pub mod FirstMib
 pub mod OfVideo
+pub mod Converts

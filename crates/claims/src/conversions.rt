@@ -21,7 +21,7 @@ ghost use Rattle.claims.specs.Conversion.{secondaryStart, numSecDev, inS
 ghost use Rattle.claims.specs.Over.{chassisOver};
 
 // The unit where the Secondary range starts.
-fn secondary_start(f: Fpb) -> Unit
+pub fn secondary_start(f: Fpb) -> Unit
     ensures { λ r. ⌜ r .0 ≡ secondaryStart f ⌝ }
     ensures { λ r. ⌜ r .0 < 8192 ⌝ }
 {
@@ -29,7 +29,7 @@ fn secondary_start(f: Fpb) -> Unit
 }
 
 // How many units an upstream port's Secondary range has: a field of n means n + 1 device numbers.
-fn secondary_units(f: Fpb) -> u16
+pub fn secondary_units(f: Fpb) -> u16
     ensures { λ r. ⌜ r ≡ numSecDev f + 1 ⌝ }
     ensures { λ r. ⌜ r ≤ 32 ⌝ }
 {

@@ -7,6 +7,8 @@ use chassis::Hold;
 pub use conversions::conversion;
 pub use conversions::converted_by_bus;
 pub use conversions::in_secondary_range;
+pub use conversions::secondary_start;
+pub use conversions::secondary_units;
 pub use decoders::VIDEO_FIRST;
 pub use decoders::VIDEO_LAST;
 pub use decoders::base_of;

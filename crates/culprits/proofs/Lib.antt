@@ -1,2 +1,3 @@
 pub mod FirstPair
 pub mod LowestPort
+pub mod AsAsked

@@ -1,4 +1,5 @@
-// Numbers 13 to 15: the lowest port that strays at a target, or whose own ID is lost.
+// Numbers 13 to 15 and 18: the lowest port that strays at a target, whose own ID is lost, or whose parent takes what it claims.
+use crate::taken::taken_at;
 use chassis::Conversion;
 use chassis::ROOT_PORT;
 use claims::claims;
@@ -21,6 +22,7 @@ ghost use Rattle.culprits.specs.Culprits.{hasFault};
 pub enum PortFault {
     Stray(Target),
     Lost,
+    Taken(Target),
 }
 
 // Whether port p is no root port and holds a target that its parent does not claim.
@@ -59,6 +61,7 @@ fn has_fault<'a>(s: &'a [u8], patch: &'a [u8], fault: PortFault, p: PortNo) -> b
     match fault {
         PortFault::Stray(t) => strays_at(s, patch, t, p),
         PortFault::Lost => own_id_lost(s, patch, p),
+        PortFault::Taken(t) => taken_at(s, patch, t, p),
     }
 }
 
@@ -77,12 +80,12 @@ pub fn lowest<'a>(s: &'a [u8], patch: &'a [u8], n: u8, fault: PortFault) -> Foun
     Found::Nothing
 }
 
-// The lowest of n ports that strays at a target; 255 where none does.
-pub fn lowest_stray<'a>(s: &'a [u8], patch: &'a [u8], n: u8, t: Target) -> PortNo
+// The same by its number, 255 where none has it.
+pub fn lowest_port<'a>(s: &'a [u8], patch: &'a [u8], n: u8, fault: PortFault) -> PortNo
     requires { ⌜ n ≡ countOf (now s) ⌝ }
-    ensures { λ r. ⌜ r ≡ lowestPort (chassisOver (now (s .entry)) (now (patch .entry))) (straysAt (chassisOver (now (s .entry)) (now (patch .entry))) t) ⌝ }
+    ensures { λ r. ⌜ r ≡ lowestPort (chassisOver (now (s .entry)) (now (patch .entry))) (hasFault fault (chassisOver (now (s .entry)) (now (patch .entry)))) ⌝ }
 {
-    match lowest(s, patch, n, PortFault::Stray(t)) {
+    match lowest(s, patch, n, fault) {
         Found::At(p) => PortNo(p as u8),
         Found::Nothing => PortNo::NONE,
     }

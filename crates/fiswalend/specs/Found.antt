@@ -1,5 +1,5 @@
 -- 01, "Numbers given back": the 40 bytes of what a call found. "The check's answer has end 0 and, for 11 to 14, its least target
--- little-endian in the first 8 places of the path."
+-- little-endian in the first 8 places of the path"; 18 names them "as 13 does" (02, Item 7).
 use Prim.Native.Nat.{ℕ}
 use mathlib.Core.List.{List}
 use Rattle.ids.specs.declared.PortNo.{PortNo}

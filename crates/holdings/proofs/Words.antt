@@ -35,7 +35,7 @@ use Rattle.holdings.specs.Holdings.{rangeIf, gridIf, busRange, memoryRan
 use Rattle.holdings.proofs.Bools.{and-swap, either-way, four-ways}
 
 -- a range or a grid that is off reaches nothing
-range-in : (on : Bool) (lo hi t : ℕ) → inRange (rangeIf on lo hi) t ≡ (on && between lo hi t)
+pub range-in : (on : Bool) (lo hi t : ℕ) → inRange (rangeIf on lo hi) t ≡ (on && between lo hi t)
 unfolding rangeIf inRange
 range-in true lo hi t = refl
 range-in false lo hi t = go (decLe 1 t)
@@ -44,7 +44,7 @@ range-in false lo hi t = go (decLe 1 t)
     go (yes l) = rw (le-leb 1 t l, lt-leb t 0 l)
     go (no l) = rw (lt-leb 1 t (omega arith))
 
-grid-in : (on : Bool) (f : Fpb) (m : Mechanism) (v : List ℕ) (lo hi t : ℕ)
+pub grid-in : (on : Bool) (f : Fpb) (m : Mechanism) (v : List ℕ) (lo hi t : ℕ)
     → hitIn v (gridIf on f m lo hi) t ≡ (on && (between lo hi t && vectorClaims f m v t))
 unfolding hitIn gridIf vectorClaims
 grid-in on f m v lo hi t =
@@ -52,7 +52,7 @@ grid-in on f m v lo hi t =
     (ap (λ (b : Bool). on && b) (and-swap (enabledIn f m) (between lo hi t) (hits v (settingsOf f m) t)))
 
 -- the IDs of the buses lo..hi are a range
-bus-between : (lo hi t : ℕ) → t < 2 ^ 16 → between (lo * 2 ^ 8) (hi * 2 ^ 8 + (2 ^ 8 - 1)) t ≡ between lo hi (busOf t)
+pub bus-between : (lo hi t : ℕ) → t < 2 ^ 16 → between (lo * 2 ^ 8) (hi * 2 ^ 8 + (2 ^ 8 - 1)) t ≡ between lo hi (busOf t)
 bus-between lo hi t small =
     let bus : busOf t ≡ t / 2 ^ 8 = mod-eq-of-lt (omega arith) in
     rw (bus, same-leb (lo * 2 ^ 8) t lo (t / 2 ^ 8) (λ l. omega arith) (λ l. omega arith), same-leb t (hi * 2 ^ 8 + (2 ^ 8 - 1)) (t / 2 ^ 8) hi (λ l. omega arith) (λ l. omega arith))
@@ -75,7 +75,7 @@ to-last lo last t l = rw (le-leb t last l) (and-true (leb lo t))
 below-four : (t : ℕ) → leb t (2 ^ 32 - 1) ≡ ltb t (2 ^ 32)
 below-four t = same-leb t (2 ^ 32 - 1) (suc t) (2 ^ 32) (λ l. omega arith) (λ l. omega arith)
 
-bus-in : (on : Bool) (b : Bridge) (t : ℕ) → t < 2 ^ 16 → inRange (busRange on b) t ≡ (on && busClaims b t)
+pub bus-in : (on : Bool) (b : Bridge) (t : ℕ) → t < 2 ^ 16 → inRange (busRange on b) t ≡ (on && busClaims b t)
 unfolding busRange busClaims
 bus-in on b t small = rw (range-in _ _ _ t, bus-between _ _ t small, and-assoc)
 
@@ -96,7 +96,7 @@ module _ (p : Port) (vector : Mechanism → List ℕ) (own claims : Bool) where
       )
       (either-way claims (own && eqb (p .«own_id» .0) t) (busClaims (p .bridge) t) (vectorClaims (p .fpb) Rid (vector Rid) t))
 
-  address-words : (t : ℕ) → t < 2 ^ 64
+  pub address-words : (t : ℕ) → t < 2 ^ 64
       → reaches (addressReach p (claims && memorySpaceEnabled (p .bridge))) (vector Low) (vector High) t ≡ (claims && besideVideo (addressDecoders p vector t))
   unfolding reaches onRanges onGrids addressReach memoryRange prefetchableRange memoryClaims prefetchableClaims lowClaims highClaims
   address-words t small =

@@ -19,7 +19,7 @@ ghost use Rattle.spans.specs.Reaches.{fits};
 ghost use Rattle.holdings.specs.Holdings.{rangeIf, gridIf, busRange, memoryRange, prefetchableRange, idReach, addressReach, reachOf, oneOf, endsIn};
 
 // A range, or the empty one.
-fn range_if(on: bool, lo: u64, hi: u64) -> Range
+pub fn range_if(on: bool, lo: u64, hi: u64) -> Range
     ensures { λ r. ⌜ r ≡ rangeIf on lo hi ⌝ }
     ensures { λ r. ⌜ r .hi ≤ hi ⌝ }
 {
@@ -31,7 +31,7 @@ fn range_if(on: bool, lo: u64, hi: u64) -> Range
 }
 
 // A vector's grid, within the range if the mechanism is enabled.
-fn grid_if(on: bool, f: Fpb, m: Mechanism, lo: u64, hi: u64) -> Grid
+pub fn grid_if(on: bool, f: Fpb, m: Mechanism, lo: u64, hi: u64) -> Grid
     ensures { λ r. ⌜ r ≡ gridIf on f m lo hi ⌝ }
     ensures { λ r. ⌜ (r .settings .scale < 64) × (r .within .hi ≤ hi) ⌝ }
 {
@@ -42,7 +42,7 @@ fn grid_if(on: bool, f: Fpb, m: Mechanism, lo: u64, hi: u64) -> Grid
 }
 
 // The IDs of the bus pair.
-fn bus_range(on: bool, b: Bridge) -> Range
+pub fn bus_range(on: bool, b: Bridge) -> Range
     ensures { λ r. ⌜ r ≡ busRange on b ⌝ }
     ensures { λ r. ⌜ r .hi < 2 ^ 16 ⌝ }
 {
@@ -92,7 +92,7 @@ fn id_reach(p: Port, own: bool, claims: bool) -> Reach
 }
 
 // Addresses: the memory decoders but vga.
-fn address_reach(p: Port, on: bool) -> Reach
+pub fn address_reach(p: Port, on: bool) -> Reach
     ensures { λ r. ⌜ r ≡ addressReach p on ⌝ }
     ensures { λ r. ⌜ fits r × endsIn Addresses r ⌝ }
 {

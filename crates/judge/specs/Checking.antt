@@ -1,4 +1,4 @@
--- The check call: numbers 1 to 10, then 11 to 15, else 0.
+-- The check call: numbers 1 to 10, then 11 to 15 and 18, else 0.
 use Prim.Native.Nat.{ℕ}
 use mathlib.Core.List.{List}
 use Rattle.chassis.specs.declared.Finding.{Finding}

@@ -8,7 +8,7 @@ use picture::Reading;
 ghost use mathlib.Core.Path.{_≡_};
 ghost use Rattle.judge.specs.Checking.{checkAnswer, checkFinding};
 
-// Numbers 1 to 10, then 11 to 15 with the least target and its ports, else clear.
+// Numbers 1 to 10, then 11 to 15 and 18 with the least target and its ports, else clear.
 pub fn check(s: &[u8]) -> CheckAnswer
     ensures { λ r. ⌜ r ≡ checkAnswer (now (s .entry)) ⌝ }
 {

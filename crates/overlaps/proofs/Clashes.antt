@@ -1,4 +1,4 @@
--- Two ports' meeting is the clash, or the stray, that the paper speaks of. Assumes nothing.
+-- Two ports' meeting is the clash, the stray or what is taken, of which the papers speak. Assumes nothing.
 use Prim.Native.Nat.{ℕ}
 use mathlib.Core.Bool.{Bool, true, false, not, Bool·beq, or-false, and-comm}
 use mathlib.Core.Path.{_≡_, refl, sym, ap}
@@ -8,7 +8,7 @@ use borrow.Author.Tests.{eq-eqb, ne-eqb}
 use Rattle.ids.specs.declared.Target.{Target}
 use Rattle.ids.specs.Ids.{portNo}
 use Rattle.chassis.specs.Chassis.{Chassis, holds}
-use Rattle.chassis.specs.Check.{clash, straysAt}
+use Rattle.chassis.specs.Check.{clash, straysAt, takesAt, takenAt}
 use Rattle.chassis.specs.Tree.{rootPort}
 use Rattle.overlaps.specs.declared.meetings.Holding.{Holding}
 use Rattle.overlaps.specs.Overlaps.{has, meeting}
@@ -30,17 +30,21 @@ same-either-way a b = go (ℕ-discrete a b)
 
 -- a port and a sibling, or a port and itself
 abbrev pub firstSide : ℕ → ℕ → Holding
-firstSide p q = record { port = portNo p; own = true; claims = not (eqb p q) }
+firstSide p q = record { port = portNo p; own = true; claims = not (eqb p q); taken = false }
 
 abbrev pub secondSide : ℕ → ℕ → Holding
-secondSide p q = record { port = portNo q; own = not (eqb p q); claims = true }
+secondSide p q = record { port = portNo q; own = not (eqb p q); claims = true; taken = false }
 
 -- a port and its parent
 abbrev pub held : ℕ → Holding
-held p = record { port = portNo p; own = true; claims = true }
+held p = record { port = portNo p; own = true; claims = true; taken = false }
 
 abbrev pub claimed : ℕ → Holding
-claimed p = record { port = portNo p; own = false; claims = true }
+claimed p = record { port = portNo p; own = false; claims = true; taken = false }
+
+-- what a port takes
+abbrev pub takenBy : ℕ → Holding
+takenBy q = record { port = portNo q; own = false; claims = false; taken = true }
 
 module _ (c : Chassis) (t : Target) where
   -- it does not matter which port comes first
@@ -78,3 +82,12 @@ module _ (c : Chassis) (t : Target) where
   pub no-stray : (p : ℕ) → c .tree .kind p ≡ rootPort → straysAt c t p ≡ false
   unfolding straysAt
   no-stray p e = rw (eq-eqb (c .tree .kind p) rootPort e)
+
+  pub taken-meets : (p : ℕ) → (c .tree .kind p ≡ rootPort → ⊥) → meeting c (takenBy (c .tree .parent p)) (claimed p) true t ≡ takenAt c t p
+  unfolding meeting has takenAt
+  taken-meets p other =
+      rw (is-true, ne-eqb (c .tree .kind p) rootPort other) (and-comm (takesAt c t (c .tree .parent p)) (c .claims p t))
+
+  pub no-taken : (p : ℕ) → c .tree .kind p ≡ rootPort → takenAt c t p ≡ false
+  unfolding takenAt
+  no-taken p e = rw (eq-eqb (c .tree .kind p) rootPort e)

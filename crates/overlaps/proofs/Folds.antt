@@ -12,12 +12,12 @@ use Rattle.least.specs.Least.{soonest}
 use Rattle.least.proofs.Laws.{none-is, first-agree, either-first, soonest-nothing}
 use Rattle.chassis.specs.Chassis.{Chassis, targetIn, spaceSize}
 use Rattle.chassis.specs.declared.Fault.{Fault}
-use Rattle.chassis.specs.declared.Fault.the-variants.{Shared, Stray}
-use Rattle.chassis.specs.Check.{clash, clashesWith, straysAt, faulty, testIn, leastTarget}
+use Rattle.chassis.specs.declared.Fault.the-variants.{Shared, Stray, Taken}
+use Rattle.chassis.specs.Check.{clash, clashesWith, atFault, faulty, testIn, leastTarget}
 use Rattle.chassis.specs.Tree.{rootPort, anyBelow}
 use Rattle.chassis.proofs.Ports.{anyBelow-true, anyBelow-at}
 use Rattle.overlaps.specs.Overlaps.{meeting, clashOf, faultyTo}
-use Rattle.overlaps.proofs.Clashes.{clash-turned, firstSide, secondSide, clash-meets, no-clash, held, claimed, stray-meets, no-stray}
+use Rattle.overlaps.proofs.Clashes.{clash-turned, firstSide, secondSide, clash-meets, no-clash, held, claimed, takenBy, stray-meets, no-stray, taken-meets, no-taken}
 
 -- the pairs of the first p ports, and of port p with the first q
 unfoldable pub seen : Chassis → ℕ → ℕ → Target → Bool
@@ -37,10 +37,10 @@ seen-before c t p l = go (anyBelow (clash c t p) p) refl
         rw (anyBelow-at (clashesWith c t) p (q .number) (q .below) row)
 
 module _ (c : Chassis) (space : Space) where
-  nothing-better : (best : Found) (test : Target → Bool) → ((t : Target) → test t ≡ false) → best ≡ soonest best (leastTarget test space)
+  nothing-better : (best : Found) (test : Target → Bool) → ((n : ℕ) → test (targetIn space n) ≡ false)
+      → best ≡ soonest best (leastTarget test space)
   unfolding testIn
-  nothing-better best test none =
-      sym (soonest-nothing best) ∙ ap (soonest best) (none-is (record { none = λ i l h. none (targetIn space i) }))
+  nothing-better best test none = sym (soonest-nothing best) ∙ ap (soonest best) (none-is (record { none = λ i l h. none i }))
 
   -- one pair: siblings meet, others do not clash
   pub pair-first : (p q : ℕ) → c .tree .parent p ≡ c .tree .parent q
@@ -50,7 +50,7 @@ module _ (c : Chassis) (space : Space) where
 
   pub no-pair : (p q : ℕ) (best : Found) → (c .tree .parent p ≡ c .tree .parent q → ⊥) → best ≡ soonest best (leastTarget (clashOf c p q) space)
   unfolding clashOf
-  no-pair p q best apart = nothing-better best (clashOf c p q) (λ t. no-clash c t p q apart)
+  no-pair p q best apart = nothing-better best (clashOf c p q) (λ n. no-clash c (targetIn space n) p q apart)
 
   -- all pairs: a row at a time, a pair at a time
   pub row-begins : (p : ℕ) → p < c .tree .count → leastTarget (faultyTo Shared c p) space ≡ leastTarget (seen c p p) space
@@ -68,22 +68,36 @@ module _ (c : Chassis) (space : Space) where
   unfolding testIn seen faultyTo clashesWith anyBelow
   row-ends p l k e = rw (le-antisymm l k ∙ e, add-one)
 
-  -- one port more: what it lets stray, or nothing of a root port
-  child-more : (p : ℕ) (test : Target → Bool) → ((t : Target) → test t ≡ straysAt c t p)
-      → soonest (leastTarget (faultyTo Stray c p) space) (leastTarget test space) ≡ leastTarget (faultyTo Stray c (p + 1)) space
+  -- one port more: what it is at fault at, or nothing
+  port-more : (fault : Fault) (p : ℕ) (test : Target → Bool) → ((n : ℕ) → test (targetIn space n) ≡ atFault fault c (targetIn space n) p)
+      → soonest (leastTarget (faultyTo fault c p) space) (leastTarget test space) ≡ leastTarget (faultyTo fault c (p + 1)) space
   unfolding testIn faultyTo anyBelow
-  child-more p test same =
+  port-more fault p test same =
       rw add-one
-      (either-first _ _ 0 (spaceSize space) (λ t. ap (λ (b : Bool). anyBelow (straysAt c (targetIn space t)) p || b) (sym (same (targetIn space t)))))
+      (either-first _ _ 0 (spaceSize space) (λ n. ap (λ (b : Bool). anyBelow (atFault fault c (targetIn space n)) p || b) (sym (same n))))
 
+  port-clear : (fault : Fault) (p : ℕ) {best : Found} → best ≡ leastTarget (faultyTo fault c p) space
+      → ((n : ℕ) → atFault fault c (targetIn space n) p ≡ false) → best ≡ leastTarget (faultyTo fault c (p + 1)) space
+  port-clear fault p {best} e none =
+      nothing-better best (λ t. atFault fault c t p) none ∙ rw e (port-more fault p (λ t. atFault fault c t p) (λ n. refl))
+
+  -- what it lets stray, or nothing of a root port
   pub with-stray : (p : ℕ) {best : Found} → best ≡ leastTarget (faultyTo Stray c p) space → (c .tree .kind p ≡ rootPort → ⊥)
       → soonest best (leastTarget (meeting c (held p) (claimed (c .tree .parent p)) false) space) ≡ leastTarget (faultyTo Stray c (p + 1)) space
-  with-stray p e other = rw e (child-more p _ (λ t. stray-meets c t p other))
+  with-stray p e other = rw e (port-more Stray p _ (λ n. stray-meets c (targetIn space n) p other))
 
   pub without-stray : (p : ℕ) {best : Found} → best ≡ leastTarget (faultyTo Stray c p) space → c .tree .kind p ≡ rootPort
       → best ≡ leastTarget (faultyTo Stray c (p + 1)) space
-  without-stray p {best} e is =
-      nothing-better best (λ t. straysAt c t p) (λ t. no-stray c t p is) ∙ rw e (child-more p (λ t. straysAt c t p) (λ t. refl))
+  without-stray p e is = port-clear Stray p e (λ n. no-stray c (targetIn space n) p is)
+
+  -- what its parent takes, or nothing of a root port
+  pub with-taken : (p : ℕ) {best : Found} → best ≡ leastTarget (faultyTo Taken c p) space → (c .tree .kind p ≡ rootPort → ⊥)
+      → soonest best (leastTarget (meeting c (takenBy (c .tree .parent p)) (claimed p) true) space) ≡ leastTarget (faultyTo Taken c (p + 1)) space
+  with-taken p e other = rw e (port-more Taken p _ (λ n. taken-meets c (targetIn space n) p other))
+
+  pub without-taken : (p : ℕ) {best : Found} → best ≡ leastTarget (faultyTo Taken c p) space → c .tree .kind p ≡ rootPort
+      → best ≡ leastTarget (faultyTo Taken c (p + 1)) space
+  without-taken p e is = port-clear Taken p e (λ n. no-taken c (targetIn space n) p is)
 
   -- all ports: nothing at first, all at the end
   pub faults-begin : (fault : Fault) → Nothing ≡ leastTarget (faultyTo fault c 0) space

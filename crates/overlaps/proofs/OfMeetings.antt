@@ -18,8 +18,10 @@ use Rattle.claims.specs.Beside.{withoutVideo}
 use Rattle.spans.specs.declared.Reach.{Reach}
 use Rattle.spans.specs.Reaches.{reaches}
 use Rattle.search.specs.Search.{reachesIs, meets}
-use Rattle.holdings.specs.Holdings.{reachOf, oneOf, endsIn}
-use Rattle.holdings.proofs.Words.{reach-words, none-past}
+use Rattle.holdings.specs.Holdings.{oneOf, endsIn}
+use Rattle.holdings.specs.Taken.{lookedAt}
+use Rattle.holdings.proofs.Words.{none-past}
+use Rattle.holdings.proofs.TakenWords.{looked-words}
 use Rattle.overlaps.specs.declared.meetings.Holding.{Holding}
 use Rattle.overlaps.specs.Overlaps.{has, meeting}
 
@@ -29,7 +31,7 @@ space-size Addresses = omega arith
 
 -- the reach of what is looked at of a port
 abbrev reachFor : List ℕ → Space → Holding → Reach
-reachFor s space h = reachOf (portAt s (h .port .0)) space (h .own) (h .claims)
+reachFor s space h = lookedAt (portAt s (h .port .0)) space (h .own) (h .claims) (h .taken)
 
 module _ (s : List ℕ) (vector : ℕ → Mechanism → List ℕ) (space : Space) where
   abbrev one : Holding → List ℕ
@@ -40,7 +42,7 @@ module _ (s : List ℕ) (vector : ℕ → Mechanism → List ℕ) (space : Space
 
   has-words : (h : Holding) (t : ℕ) → t < spaceSize space → reaches (reachFor s space h) (one h) (other h) t ≡ testIn (has (withoutVideo (chassisWith s vector)) h) space t
   unfolding has testIn
-  has-words h t l = reach-words s vector (h .port .0) space (h .own) (h .claims) t l
+  has-words h t l = looked-words s vector (h .port .0) (h .own) (h .claims) space (h .taken) t l
 
   module _ (a b : Holding) (want : Bool) where
     pub meets-first : {d e : Reach} → d ≡ reachFor s space a → e ≡ reachFor s space b → endsIn space d

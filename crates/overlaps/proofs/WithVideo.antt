@@ -1,6 +1,6 @@
 -- The least target at fault, by the least one beside the video range and the first address of it. Assumes nothing.
 use Prim.Native.Nat.{ℕ, zero-le, _^_, _≤_, _<_}
-use mathlib.Core.Bool.{Bool, true, false, not, cond, _&&_, _||_, and-true, or-false}
+use mathlib.Core.Bool.{Bool, true, false, not, cond, _&&_, _||_, and-true, and-false, or-false}
 use mathlib.Core.Path.{_≡_, refl, sym, _∙_, ap₂}
 use native.Mathlib.Omega.{arith}
 use lib.Dec.{eqb}
@@ -14,10 +14,10 @@ use Rattle.least.specs.Least.{soonest}
 use Rattle.least.proofs.Laws.{NoneIn, first-agree}
 use Rattle.chassis.specs.Chassis.{Chassis, isOwn, holds}
 use Rattle.chassis.specs.declared.Fault.{Fault}
-use Rattle.chassis.specs.declared.Fault.the-variants.{Shared, Stray}
-use Rattle.chassis.specs.Check.{clash, clashesWith, straysAt, atFault, faulty, testIn, leastTarget}
+use Rattle.chassis.specs.declared.Fault.the-variants.{Shared, Stray, Taken}
+use Rattle.chassis.specs.Check.{clash, clashesWith, straysAt, takesAt, takenAt, atFault, faulty, testIn, leastTarget}
 use Rattle.chassis.specs.Tree.{Tree, rootPort, standsAt, anyBelow}
-use Rattle.chassis.proofs.Bools.{and-true-parts, or-false-parts}
+use Rattle.chassis.proofs.Bools.{never-both-values, and-true-parts, or-false-parts}
 use Rattle.chassis.proofs.Ports.{NoneBelow, anyBelow-true, anyBelow-at, anyBelow-false}
 use Rattle.claims.specs.Beside.{withoutVideo}
 use Rattle.claims.proofs.OfVideo.{OfVideo}
@@ -35,25 +35,28 @@ module _ (fault : Fault) (c : Chassis) where
   unfolding leastOfVideo
   video-none none l e = rw (anyBelow-false (videoAtFault fault c) (c .tree .count) .1 (λ q k. none .none q zero-le (omega arith)))
 
--- whether a fault is at a target, by the tree and by what each port owns and claims
+-- whether a fault is at a target, by the tree and by what each port owns, claims and takes
 clashBy : Tree → (ℕ → Bool) → (ℕ → Bool) → ℕ → ℕ → Bool
 clashBy tree own claims p q =
     cond (eqb p q) (own p && claims p) (standsAt tree (tree .parent q) p && ((own p || claims p) && (own q || claims q)))
 
-faultBy : Fault → Tree → (ℕ → Bool) → (ℕ → Bool) → Bool
-faultBy Shared tree own claims = anyBelow (λ p. anyBelow (clashBy tree own claims p) (tree .count)) (tree .count)
-faultBy Stray tree own claims =
+faultBy : Fault → Tree → (ℕ → Bool) → (ℕ → Bool) → (ℕ → Bool) → Bool
+faultBy Shared tree own taken claims = anyBelow (λ p. anyBelow (clashBy tree own claims p) (tree .count)) (tree .count)
+faultBy Taken tree own taken claims =
+    anyBelow (λ p. not (eqb (tree .kind p) rootPort) && claims p && taken (tree .parent p)) (tree .count)
+faultBy Stray tree own taken claims =
     anyBelow (λ p. not (eqb (tree .kind p) rootPort) && (own p || claims p) && not (claims (tree .parent p))) (tree .count)
 
 by-claims : (fault : Fault) (c : Chassis) (t : Target)
-    → faulty fault c t ≡ faultBy fault (c .tree) (isOwn c t) (λ p. c .claims p t)
-unfolding faulty clashesWith clash straysAt holds faultBy clashBy
+    → faulty fault c t ≡ faultBy fault (c .tree) (isOwn c t) (takesAt c t) (λ p. c .claims p t)
+unfolding faulty clashesWith clash straysAt takenAt holds faultBy clashBy
 by-claims Shared c t = refl
 by-claims Stray c t = refl
+by-claims Taken c t = refl
 
-same-fault : (fault : Fault) (tree : Tree) (own : ℕ → Bool) {x y : ℕ → Bool} → ((p : ℕ) → x p ≡ y p)
-    → faultBy fault tree own x ≡ faultBy fault tree own y
-same-fault fault tree own e = λ i. faultBy fault tree own (λ p. e p i)
+same-fault : (fault : Fault) (tree : Tree) (own taken : ℕ → Bool) {x y : ℕ → Bool} → ((p : ℕ) → x p ≡ y p)
+    → faultBy fault tree own taken x ≡ faultBy fault tree own taken y
+same-fault fault tree own taken e = λ i. faultBy fault tree own taken (λ p. e p i)
 
 module _ (c : Chassis) (v : OfVideo c) (fault : Fault) where
   abbrev w : Chassis
@@ -66,13 +69,13 @@ module _ (c : Chassis) (v : OfVideo c) (fault : Fault) where
   same-id : (rid : Rid) → faulty fault c (Id rid) ≡ faulty fault w (Id rid)
   same-id rid =
       by-claims fault c (Id rid)
-      ∙ same-fault fault (c .tree) (isOwn c (Id rid)) (λ p. beside p (Id rid) (v .id p rid))
+      ∙ same-fault fault (c .tree) (isOwn c (Id rid)) (takesAt c (Id rid)) (λ p. beside p (Id rid) (v .id p rid))
       ∙ sym (by-claims fault w (Id rid))
 
   same-address : (t : ℕ) → ((p : ℕ) → c .decoders p (Addr t) .vga ≡ false) → faulty fault c (Addr t) ≡ faulty fault w (Addr t)
   same-address t out =
       by-claims fault c (Addr t)
-      ∙ same-fault fault (c .tree) (isOwn c (Addr t)) (λ p. beside p (Addr t) (out p))
+      ∙ same-fault fault (c .tree) (isOwn c (Addr t)) (takesAt c (Addr t)) (λ p. beside p (Addr t) (out p))
       ∙ sym (by-claims fault w (Addr t))
 
   flat-claim : (p t : ℕ) → 0xA0000 ≤ t → t ≤ 0xBFFFF → c .claims p (Addr t) ≡ c .claims p (Addr 0xA0000)
@@ -84,13 +87,13 @@ module _ (c : Chassis) (v : OfVideo c) (fault : Fault) where
   inside : (t : ℕ) → 0xA0000 ≤ t → t ≤ 0xBFFFF → faulty fault c (Addr t) ≡ faulty fault c (Addr 0xA0000)
   inside t l h =
       by-claims fault c (Addr t)
-      ∙ same-fault fault (c .tree) (isOwn c (Addr t)) (λ p. flat-claim p t l h)
+      ∙ same-fault fault (c .tree) (isOwn c (Addr t)) (takesAt c (Addr t)) (λ p. flat-claim p t l h)
       ∙ sym (by-claims fault c (Addr 0xA0000))
 
   flat : (t : ℕ) → t < 2 ^ 20 → faulty fault w (Addr t) ≡ faulty fault w (Addr 0)
   flat t small =
       by-claims fault w (Addr t)
-      ∙ same-fault fault (c .tree) (isOwn c (Addr t)) (λ p. v .flat p t small)
+      ∙ same-fault fault (c .tree) (isOwn c (Addr t)) (takesAt c (Addr t)) (λ p. v .flat p t small)
       ∙ sym (by-claims fault w (Addr 0))
 
   -- a port at fault that claims the video range is a port at fault
@@ -117,7 +120,9 @@ module _ (c : Chassis) (v : OfVideo c) where
 
   other : (fault : Fault) → NoneBelow (videoAtFault fault c) (c .tree .count) → (p : ℕ) → p < c .tree .count
       → atFault fault c (Addr 0xA0000) p ≡ true → atFault fault (withoutVideo c) (Addr 0xA0000) p ≡ true
-  unfolding clashesWith straysAt holds
+  unfolding clashesWith straysAt takenAt holds
+  other Taken none p l e =
+      never-both-values _ e (and-false (not (eqb (c .tree .kind p) rootPort) && c .claims p (Addr 0xA0000)))
   other Shared none p l e =
       let some = anyBelow-true (clash c (Addr 0xA0000) p) (c .tree .count) .0 e in
       let q = some .number in

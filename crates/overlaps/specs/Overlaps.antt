@@ -8,14 +8,15 @@ use Rattle.least.specs.declared.Found.{Found}
 use Rattle.least.specs.declared.Found.the-variants.{At, Nothing}
 use Rattle.chassis.specs.Chassis.{Chassis, isOwn}
 use Rattle.chassis.specs.declared.Fault.{Fault}
-use Rattle.chassis.specs.Check.{clash, atFault}
+use Rattle.chassis.specs.Check.{clash, takesAt, atFault}
 use Rattle.chassis.specs.Tree.{anyBelow}
 use Rattle.claims.specs.Beside.{videoFirst}
 use Rattle.overlaps.specs.declared.meetings.Holding.{Holding}
 
--- the port's own ID, where that is looked at, or claimed by it, where that is
+-- taken by the port, where that is looked at; else its own ID, where that is, or claimed by it, where that is
 unfoldable pub has : Chassis → Holding → Target → Bool
-has c h t = h .own && isOwn c t (h .port .0) || h .claims && c .claims (h .port .0) t
+has c h t =
+    cond (h .taken) (takesAt c t (h .port .0)) (h .own && isOwn c t (h .port .0) || h .claims && c .claims (h .port .0) t)
 
 -- the first has it, and the second has it or does not, as is wanted
 unfoldable pub meeting : Chassis → Holding → Holding → Bool → Target → Bool

@@ -1,6 +1,7 @@
-// Numbers 11 to 14: the least target with a fault, told which fault and which space.
+// Numbers 11 to 14 and 18: the least target with a fault, told which fault and which space.
 use crate::pairs::with_pairs;
 use crate::strays::with_child;
+use crate::taken::with_taken;
 use crate::video::least_of_video;
 use chassis::Fault;
 use ids::PortNo;
@@ -32,6 +33,7 @@ fn with_port<'a>(
     match fault {
         Fault::Shared => with_pairs(s, patch, n, space, p, best),
         Fault::Stray => with_child(s, patch, space, PortNo(p), best),
+        Fault::Taken => with_taken(s, patch, space, PortNo(p), best),
     }
 }
 

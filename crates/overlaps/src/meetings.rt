@@ -12,11 +12,12 @@ ghost use Rattle.chassis.specs.Check.{leastTarget};
 ghost use Rattle.claims.specs.Beside.{chassisBeside};
 ghost use Rattle.overlaps.specs.Overlaps.{meeting};
 
-// What of a port is looked at: its own ID, its claims, or both.
+// What of a port is looked at: the IDs that it takes, where `taken`; else its own ID, its claims, or both.
 pub struct Holding {
     pub port: PortNo,
     pub own: bool,
     pub claims: bool,
+    pub taken: bool,
 }
 
 // The least target of a space that a has, and that b has or does not, as is wanted; or the best so far, if that is lower.
@@ -35,10 +36,10 @@ pub fn least_meeting<'a>(
     let p = a.port;
     let q = b.port;
     search::least_both(
-        reach_at(s, p, space, a.own, a.claims),
+        reach_at(s, p, space, a.own, a.claims, a.taken),
         vector(s, patch, p, m),
         vector(s, patch, p, Mechanism::High),
-        reach_at(s, q, space, b.own, b.claims),
+        reach_at(s, q, space, b.own, b.claims, b.taken),
         vector(s, patch, q, m),
         vector(s, patch, q, Mechanism::High),
         want,

@@ -32,11 +32,13 @@ fn with_pair<'a>(
             port: p,
             own: true,
             claims: apart,
+            taken: false,
         };
         let b = Holding {
             port: q,
             own: apart,
             claims: true,
+            taken: false,
         };
         least_meeting(s, patch, space, a, b, true, best)
     } else {

@@ -26,11 +26,13 @@ pub fn with_child<'a>(s: &'a [u8], patch: &'a [u8], space: Space, p: PortNo, bes
         port: p,
         own: true,
         claims: true,
+        taken: false,
     };
     let claimed = Holding {
         port: parent_at(s, p),
         own: false,
         claims: true,
+        taken: false,
     };
     least_meeting(s, patch, space, held, claimed, false, best)
 }

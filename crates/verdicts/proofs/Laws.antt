@@ -7,7 +7,7 @@ use Rattle.ids.specs.declared.Target.{Target}
 use Rattle.least.specs.declared.Found.the-variants.{At}
 use Rattle.least.proofs.Laws.{is-at}
 use Rattle.chassis.specs.declared.Verdict.{Verdict}
-use Rattle.chassis.specs.declared.Verdict.the-variants.{Clear, Shared, Stray, Lost}
+use Rattle.chassis.specs.declared.Verdict.the-variants.{Clear, Shared, Stray, Lost, Taken}
 use Rattle.chassis.specs.Chassis.{targetIn, spaceSize}
 use Rattle.chassis.specs.Check.{testIn, leastTarget, orNext}
 
@@ -25,6 +25,7 @@ next-assoc Clear b c = refl
 next-assoc (Shared t p q) b c = refl
 next-assoc (Stray t p) b c = refl
 next-assoc (Lost p) b c = refl
+next-assoc (Taken t p) b c = refl
 
 next-clear : (a : Verdict) → orNext a Clear ≡ a
 unfolding orNext
@@ -32,8 +33,9 @@ next-clear Clear = refl
 next-clear (Shared t p q) = refl
 next-clear (Stray t p) = refl
 next-clear (Lost p) = refl
+next-clear (Taken t p) = refl
 
--- five rows, the last with nothing behind it
-pub rows-chained : (a b c d e : Verdict)
-    → orNext (orNext (orNext (orNext a b) c) d) e ≡ orNext a (orNext b (orNext c (orNext d (orNext e Clear))))
-rows-chained a b c d e = simp (next-assoc, next-clear)
+-- six rows, the last with nothing behind it
+pub rows-chained : (a b c d e f : Verdict)
+    → orNext (orNext (orNext (orNext (orNext a b) c) d) e) f ≡ orNext a (orNext b (orNext c (orNext d (orNext e (orNext f Clear)))))
+rows-chained a b c d e f = simp (next-assoc, next-clear)

@@ -6,7 +6,7 @@ use claims::hold_of;
 use culprits::PortFault;
 use culprits::first_pair;
 use culprits::lowest;
-use culprits::lowest_stray;
+use culprits::lowest_port;
 use ids::PortNo;
 use ids::Rid;
 use ids::Space;
@@ -46,11 +46,18 @@ fn verdict_at<'a>(s: &'a [u8], patch: &'a [u8], n: u8, fault: Fault, t: Target) 
             let second = hold_of(s, patch, pair.second, t);
             Verdict::Shared(t, first, second)
         }
-        Fault::Stray => Verdict::Stray(t, hold_of(s, patch, lowest_stray(s, patch, n, t), t)),
+        Fault::Stray => {
+            let port = lowest_port(s, patch, n, PortFault::Stray(t));
+            Verdict::Stray(t, hold_of(s, patch, port, t))
+        }
+        Fault::Taken => {
+            let port = lowest_port(s, patch, n, PortFault::Taken(t));
+            Verdict::Taken(t, hold_of(s, patch, port, t))
+        }
     }
 }
 
-// Numbers 11 to 14: a fault at the least target of a space.
+// Numbers 11 to 14 and 18: a fault at the least target of a space.
 fn fault_in<'a>(s: &'a [u8], patch: &'a [u8], n: u8, fault: Fault, space: Space) -> Verdict
     requires { ⌜ n ≡ countOf (now s) ⌝ }
     ensures { λ r. ⌜ r ≡ atLeast (chassisOver (now (s .entry)) (now (patch .entry))) fault space (leastTarget (faulty fault (chassisOver (now (s .entry)) (now (patch .entry)))) space) ⌝ }
@@ -93,6 +100,7 @@ fn or_row<'a>(s: &'a [u8], patch: &'a [u8], n: u8, before: Verdict, next: Row) -
         Verdict::Shared(t, p, q) => Verdict::Shared(t, p, q),
         Verdict::Stray(t, p) => Verdict::Stray(t, p),
         Verdict::Lost(p) => Verdict::Lost(p),
+        Verdict::Taken(t, p) => Verdict::Taken(t, p),
     }
 }
 
@@ -117,5 +125,6 @@ pub fn verdict<'a>(s: &'a [u8], patch: &'a [u8], n: u8) -> Verdict
         stray_id,
         Row::At(Fault::Stray, Space::Addresses),
     );
-    or_row(s, patch, n, stray, Row::Lost)
+    let lost = or_row(s, patch, n, stray, Row::Lost);
+    or_row(s, patch, n, lost, Row::At(Fault::Taken, Space::Ids))
 }

@@ -19,5 +19,9 @@ returns-4 : tie.Need-returns-4
 unfolding orNext
 returns-4 c = rw (c .before .before4 .given .1)
 
+returns-5 : tie.Need-returns-5
+unfolding orNext
+returns-5 c = rw (c .before .before5 .given .1)
+
 pub or-row-spec : {M : Type 1} → statement M
-or-row-spec = tie.close (tie.spec (λ c. search needs) (λ c κs. search needs) (λ c. search needs) (λ c. search needs) (λ c. search needs) returns returns-2 returns-3 returns-4)
+or-row-spec = tie.close (tie.spec (λ c. search needs) (λ c κs. search needs) (λ c. search needs) (λ c. search needs) (λ c. search needs) (λ c. search needs) returns returns-2 returns-3 returns-4 returns-5)

@@ -11,7 +11,10 @@ unfolding pairAt
 returns c = rw (c .before .before .before .enum-told .given .1, c .hold-of2 .ensures, c .before .hold-of .ensures, c .before .before .first-pair .ensures)
 
 returns-2 : tie.Need-returns-2
-returns-2 c = rw (c .before .before .enum-told2 .given .1, c .hold-of3 .ensures, c .before .lowest-stray .ensures)
+returns-2 c = rw (c .before .before .enum-told2 .given .1, c .hold-of3 .ensures, c .before .lowest-port .ensures)
+
+returns-3 : tie.Need-returns-3
+returns-3 c = rw (c .before .before .enum-told3 .given .1, c .hold-of4 .ensures, c .before .lowest-port2 .ensures)
 
 pub verdict-at-spec : {M : Type 1} → statement M
 verdict-at-spec =
@@ -24,5 +27,9 @@ verdict-at-spec =
     (λ c. search needs)
     (λ c κs. search needs)
     (λ c κs. search needs)
+    (λ c. search needs)
+    (λ c κs. search needs)
+    (λ c κs. search needs)
     returns
-    returns-2)
+    returns-2
+    returns-3)

@@ -14,6 +14,9 @@ returns-3 c = rw (c .before .before .v2 .given .1, c .by-target2 .ensures)
 returns-4 : tie.Need-returns-4
 returns-4 c = rw (c .before .v3 .given .1)
 
+returns-5 : tie.Need-returns-5
+returns-5 c = rw (c .before .v4 .given .1)
+
 pub finding-of-spec : {M : Type 1} → statement M
 finding-of-spec =
     tie.close
@@ -24,7 +27,9 @@ finding-of-spec =
     (λ c. search needs)
     (λ c κs. search needs)
     (λ c. search needs)
+    (λ c. search needs)
     returns
     returns-2
     returns-3
-    returns-4)
+    returns-4
+    returns-5)
