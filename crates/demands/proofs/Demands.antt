@@ -1,5 +1,5 @@
 -- The three demands, proved of the definitions that the public calls promise. Assumes nothing.
-use Prim.Native.Nat.{ℕ, _-_, _≤_, _<_}
+use Prim.Native.Nat.{ℕ, _-_, _≤_}
 use Rattle.least.proofs.Laws.{impossible}
 use Rattle.chassis.proofs.Bools.{never-both-values}
 use mathlib.Core.Bool.{Bool, true, false}
@@ -13,17 +13,15 @@ use Rattle.ids.specs.declared.PortNo.{PortNo}
 use Rattle.ids.specs.declared.Target.{Target}
 use Rattle.ids.specs.declared.Target.the-variants.{Id, Addr}
 use Rattle.chassis.specs.declared.End.{End}
-use Rattle.chassis.specs.declared.Packet.{Packet}
 use Rattle.chassis.specs.declared.Verdict.{Verdict}
-use Rattle.chassis.specs.declared.Verdict.the-variants.{Clear, Shared, Stray, Lost}
+use Rattle.chassis.specs.declared.Verdict.the-variants.{Clear, Shared, Stray, Lost, Taken}
 use Rattle.chassis.specs.declared.Fault.the-variants.{Shared as Faulty·Shared, Stray as Faulty·Stray}
 use Rattle.chassis.specs.declared.Hold.{Hold}
 use Rattle.chassis.specs.Chassis.{Chassis, holds, atLeastOne, holdOf, isHeld}
-use Rattle.chassis.proofs.NamedHold.{pair-held, itself-held, stray-held}
+use Rattle.chassis.proofs.NamedHold.{pair-held, itself-held, stray-held, taken-held, taken-not-own}
 use Rattle.chassis.specs.Check.{faulty, verdictOf}
 use Rattle.chassis.specs.Table.{findingOf}
 use Rattle.chassis.specs.Findings.{NoneWith, Says}
-use Rattle.chassis.specs.OneEnd.{InRange, OneEnd}
 use Rattle.chassis.specs.Walk.{Walk, comeTo}
 use Rattle.chassis.proofs.CheckLaws.{shared-true}
 use Rattle.chassis.proofs.Demand3.{clean-one-end}
@@ -40,7 +38,6 @@ use Rattle.picture.specs.Reading.{reading}
 use Rattle.trees.specs.Trees.{treeOf}
 use Rattle.claims.specs.Claims.{chassisOf}
 use Rattle.routes.specs.declared.Walked.{Walked}
-use Rattle.routes.specs.Routes.{Arrives}
 use Rattle.judge.specs.declared.CheckAnswer.{CheckAnswer}
 use Rattle.judge.specs.declared.CheckAnswer.the-variants.{Judged}
 use Rattle.judge.specs.declared.WalkAnswer.{WalkAnswer}
@@ -214,18 +211,24 @@ clear-only (Shared (Addr a) p q) e = absurd (omega arith)
 clear-only (Stray (Id rid) p) e = absurd (omega arith)
 clear-only (Stray (Addr a) p) e = absurd (omega arith)
 clear-only (Lost p) e = absurd (omega arith)
+clear-only (Taken t p) e = absurd (omega arith)
 
-pub demand-3 : (s : List ℕ) → Demand3 s
+-- a picture that passes reads, and nothing is at fault in it
+pub passed-clear : (s : List ℕ) → checkNumber (checkAnswer s) ≡ 0 → (h : Header) × (reading s ≡ Read h) × Says (chassisOf s) Clear
 unfolding checkOf checkFinding refusalFinding
-demand-3 s passed t range = go (reading s) refl passed
+passed-clear s passed = go (reading s) refl passed
   where
-    go : (got : Reading) → reading s ≡ got → checkFinding (checkOf got s) .number ≡ 0 → OneEnd (chassisOf s) t
+    go : (got : Reading) → reading s ≡ got → checkFinding (checkOf got s) .number ≡ 0 → (h : Header) × (reading s ≡ Read h) × Says (chassisOf s) Clear
     go (NotRead r) is none = absurd (never-zero s r is none)
     go (Read h) is none =
         let clear = clear-only (verdictOf (chassisOf s)) none in
-        let says : Says (chassisOf s) Clear = subst (Says (chassisOf s)) clear (verdict-says (chassisOf s)) in
-        clean-one-end (chassisOf s) t (sane-read s h is)
-        (record { unshared = says .0 Faulty·Shared t range; unstrayed = says .0 Faulty·Stray t range })
+        (h, is, subst (Says (chassisOf s)) clear (verdict-says (chassisOf s)))
+
+pub demand-3 : (s : List ℕ) → Demand3 s
+demand-3 s passed t range =
+    let clear = passed-clear s passed in
+    clean-one-end (chassisOf s) t (sane-read s (clear .0) (clear .1))
+    (record { unshared = clear .2 .0 Faulty·Shared t range; unstrayed = clear .2 .0 Faulty·Stray t range })
 
 -- the answer for a picture that reads is the verdict of its chassis
 pub judged : (s : List ℕ) (h : Header) → reading s ≡ Read h → checkAnswer s ≡ Judged (verdictOf (chassisOf s))
@@ -248,13 +251,15 @@ module _ (c : Chassis) where
   overlap-told (Stray (Id rid) p) says e = ⊎-elim (λ x. absurd (omega arith)) (λ x. absurd (omega arith)) e
   overlap-told (Stray (Addr a) p) says e = ⊎-elim (λ x. absurd (omega arith)) (λ x. absurd (omega arith)) e
   overlap-told (Lost p) says e = ⊎-elim (λ x. absurd (omega arith)) (λ x. absurd (omega arith)) e
+  overlap-told (Taken t p) says e = ⊎-elim (λ x. absurd (omega arith)) (λ x. absurd (omega arith)) e
 
   overlap-given : Overlap c → (v : Verdict) → Says c v → Either (findingOf v .number)
   overlap-given o (Shared (Id rid) p q) says = inl refl
   overlap-given o (Shared (Addr a) p q) says = inr refl
   overlap-given o Clear says = unseen o (says .0 Faulty·Shared)
   overlap-given o (Stray t p) says = unseen o (says .0)
-  overlap-given o (Lost p) says = unseen o (says .0 Faulty·Shared)
+  overlap-given o (Lost p) says = unseen o (says .0)
+  overlap-given o (Taken t p) says = unseen o (says .0)
 
 -- a check that gives the verdict of a chassis where the lent bytes read
 pub fails-exactly : (got : Reading) (a : CheckAnswer) (c : Chassis) → ((h : Header) → got ≡ Read h → a ≡ Judged (verdictOf c))
@@ -280,7 +285,7 @@ judged-only s v = go (reading s)
 pub overlap-exactly : (s : List ℕ) → OverlapExactly s
 overlap-exactly s = fails-exactly (reading s) (checkAnswer s) (chassisOf s) (judged s) (judged-only s)
 
--- each port that 11 to 14 name holds the target, and a port that is a pair with itself owns it and claims it
+-- each port that 11 to 14 name holds the target, a port that is a pair with itself owns it and claims it, and one that 18 names claims it and does not own it
 module _ (s : List ℕ) (t : Target) where
   pub pair-named : (h k : Hold) → checkAnswer s ≡ Judged (Shared t h k) → (isHeld h ≡ true) × (isHeld k ≡ true)
   pair-named h k is = pair-held (chassisOf s) (λ p u. refl) t h k (overlap-exactly s .shown (Shared t h k) is)
@@ -291,3 +296,8 @@ module _ (s : List ℕ) (t : Target) where
 
   pub stray-named : (h : Hold) → checkAnswer s ≡ Judged (Stray t h) → isHeld h ≡ true
   stray-named h is = stray-held (chassisOf s) (λ p u. refl) t h (overlap-exactly s .shown (Stray t h) is)
+
+  pub taken-named : (h : Hold) → checkAnswer s ≡ Judged (Taken t h) → (h .own ≡ false) × (atLeastOne (h .decoders) ≡ true)
+  taken-named h is =
+      let says = overlap-exactly s .shown (Taken t h) is in
+      (taken-not-own (chassisOf s) (λ p u. refl) t h says, taken-held (chassisOf s) (λ p u. refl) t h says)

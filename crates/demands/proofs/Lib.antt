@@ -1,10 +1,13 @@
 pub mod Numbers
 pub mod Demands
 pub mod Trials
+pub mod EveryPort
 pub mod Tests
+pub mod Zeros
 pub mod FourPorts
 pub mod Worked
 pub mod WorkedWalks
 pub mod Doubled
 pub mod WorkedTrial
 pub mod WorkedVideo
+pub mod WorkedChain

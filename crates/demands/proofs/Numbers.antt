@@ -1,19 +1,18 @@
 -- Every number that a call gives is one of the table's. Assumes nothing.
 use Prim.Native.Nat.{ℕ}
-use mathlib.Core.Bool.{Bool, true, false, cond, _||_}
+use mathlib.Core.Bool.{Bool, true, false, _||_}
 use mathlib.Core.List.{List, [], _∷_, _++_}
 use mathlib.Core.Logic.{_⊎_, inl, inr, ⊎-elim}
-use mathlib.Core.Path.{_≡_, refl, sym, ap, subst, _∙_}
+use mathlib.Core.Path.{_≡_, refl, subst}
 use lib.ListN.{length}
 use lib.Dec.{eqb, ltb}
 use Rattle.least.proofs.Laws.{impossible}
-use Rattle.ids.specs.declared.Target.{Target}
 use Rattle.ids.specs.declared.Target.the-variants.{Id, Addr}
 use Rattle.least.specs.declared.Found.{Found}
 use Rattle.least.specs.declared.Found.the-variants.{At, Nothing}
 use Rattle.least.specs.Least.{firstIn}
 use Rattle.chassis.specs.declared.Verdict.{Verdict}
-use Rattle.chassis.specs.declared.Verdict.the-variants.{Clear, Shared, Stray, Lost}
+use Rattle.chassis.specs.declared.Verdict.the-variants.{Clear, Shared, Stray, Lost, Taken}
 use Rattle.chassis.specs.Check.{verdictOf}
 use Rattle.chassis.specs.Table.{findingOf}
 use Rattle.trees.specs.Trees.{countOf}
@@ -30,7 +29,7 @@ use Rattle.judge.specs.Checking.{checkOf, checkAnswer, checkFinding, checkNumbe
 use Rattle.judge.specs.Claiming.{claimAskedWrongly, claimOf, claimAnswer, claimNumber}
 use Rattle.judge.specs.Converting.{convertAskedWrongly, convertOf, convertAnswer, convertNumber}
 use Rattle.judge.specs.Ends.{outcomeNumber}
-use Rattle.judge.specs.Refusals.{number16, refusalFinding}
+use Rattle.judge.specs.Refusals.{refusalFinding}
 use Rattle.judge.specs.Walking.{askedWrongly, refusedWalk, endedWalk, AskedGives, ReadGives, WalkGives}
 use Rattle.registers.specs.declared.Mechanism.{Mechanism}
 use Rattle.patches.specs.Patch.{headerMisfits, portsMisplaced, vectorsMisplaced}
@@ -99,6 +98,7 @@ verdict-numbered (Shared (Addr a) p q) = refl
 verdict-numbered (Stray (Id rid) p) = refl
 verdict-numbered (Stray (Addr a) p) = refl
 verdict-numbered (Lost p) = refl
+verdict-numbered (Taken t p) = refl
 
 module _ (s : List ℕ) where
   pub reading-in-table : oneOf ofReading (numberOf (reading s)) ≡ true
@@ -117,7 +117,7 @@ module _ (s : List ℕ) where
   check-numbered = go (reading s) (reading-numbered s)
     where
       go : (got : Reading) → Numbered got → oneOf ofCheck (checkNumber (checkOf got s)) ≡ true
-      go (Refused r) told = refusal-of-table (11 ∷ 12 ∷ 13 ∷ 14 ∷ 15 ∷ []) (r .number) told
+      go (Refused r) told = refusal-of-table (11 ∷ 12 ∷ 13 ∷ 14 ∷ 15 ∷ 18 ∷ []) (r .number) told
       go (Read h) told = verdict-numbered (verdictOf (chassisOf s))
 
   pub claim-numbered : (port kind target : ℕ) → oneOf ofAsking (claimNumber (claimAnswer s port kind target)) ≡ true
@@ -210,7 +210,7 @@ module _ (s patch : List ℕ) where
   trial-check-numbered = go (readingWith s patch) (reading-tried s patch)
     where
       go : (got : Reading) → Tried got → oneOf (ofCheck ++ ofPatch) (checkNumber (triedCheck got (patched s patch))) ≡ true
-      go (Refused r) told = tried-of-table (11 ∷ 12 ∷ 13 ∷ 14 ∷ 15 ∷ []) (r .number) told
+      go (Refused r) told = tried-of-table (11 ∷ 12 ∷ 13 ∷ 14 ∷ 15 ∷ 18 ∷ []) (r .number) told
       go (Read h) told = in-more ofCheck ofPatch (checkNumber (checkAnswer (patched s patch))) (check-numbered (patched s patch))
 
   pub trial-walk-numbered : (kind start target : ℕ) (a : WalkAnswer) → TrialGives s patch kind start target a

@@ -1,6 +1,6 @@
 -- Tests of a number that no number passes together: own IDs and ranges.
 use Prim.Native.Nat.{ℕ, _≤_, _<_}
-use mathlib.Core.Bool.{Bool, true, false, not, _&&_, _||_}
+use mathlib.Core.Bool.{Bool, true, false, not, _&&_, _||_, and-false}
 use mathlib.Core.Path.{_≡_, refl}
 use native.Mathlib.Omega.{arith}
 use lib.Dec.{eqb, leb}
@@ -46,6 +46,14 @@ within lo hi lo′ hi′ x low high = go (leb lo x) (leb x hi) refl refl
     go true false d e = refl
     go true true d e =
         rw (le-leb lo′ x (omega (arith, leb-true lo x d)), le-leb x hi′ (omega (arith, leb-true x hi e)))
+
+-- a number below a range is not in it
+pub elsewhere : (lo hi s x : ℕ) (a b : Bool) → s < lo → (between lo hi x && (a && (b && eqb x s))) ≡ false
+elsewhere lo hi s x a b order = go (eqb x s) refl
+  where
+    go : (same : Bool) → eqb x s ≡ same → (between lo hi x && (a && (b && same))) ≡ false
+    go true e = rw (lt-leb lo x (omega (arith, eqb-true x s e)))
+    go false e = rw (and-false b, and-false a, and-false (between lo hi x))
 
 pub never-both : (b : Bool) → (b && not b) ≡ false
 never-both true = refl

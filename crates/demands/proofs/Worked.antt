@@ -3,19 +3,20 @@ use Prim.Native.Nat.{ℕ, _^_}
 use mathlib.Core.Bool.{false, not, _&&_, _||_, and-comm, and-false, or-false}
 use mathlib.Core.Path.{_≡_, refl, _∙_}
 use native.Mathlib.Omega.{arith}
-use lib.Dec.{leb, ltb}
+use lib.Dec.{eqb, leb, ltb}
 use Rattle.ids.specs.declared.Target.{Target}
 use Rattle.ids.specs.declared.Target.the-variants.{Id, Addr}
 use Rattle.ids.specs.Ids.{busOf}
 use Rattle.lent.specs.Lent.{u16At, u32At}
 use Rattle.chassis.specs.declared.Fault.{Fault}
-use Rattle.chassis.specs.declared.Fault.the-variants.{Shared, Stray}
+use Rattle.chassis.specs.declared.Fault.the-variants.{Shared, Stray, Taken}
 use Rattle.chassis.specs.declared.Verdict.the-variants.{Clear}
 use Rattle.chassis.specs.Chassis.{Chassis, holds, atLeastOne}
-use Rattle.chassis.specs.Check.{clash, clashesWith, straysAt, ownIdLost, faulty}
+use Rattle.chassis.specs.Check.{clash, clashesWith, straysAt, ownIdLost, takes, takenAt, faulty}
 use Rattle.chassis.specs.Findings.{NoneWith, Says}
 use Rattle.chassis.specs.OneEnd.{InRange, OneEnd}
 use Rattle.chassis.specs.Tree.{anyBelow}
+use Rattle.chassis.proofs.CheckLaws.{no-address-taken}
 use Rattle.chassis.proofs.Ports.{anyBelow-false}
 use Rattle.chassis.proofs.Verdicts.{verdict-exactly}
 use Rattle.picture.specs.declared.Reading.the-variants.{Read}
@@ -25,11 +26,12 @@ use Rattle.registers.specs.Rules.{withAri}
 use Rattle.claims.specs.Decoders.{between, busClaims, vectorClaims, memoryClaims, prefetchableClaims, lowClaims, highClaims, vgaEnabled, videoClaims, memorySpaceEnabled, idDecoders, addressDecoders}
 use Rattle.claims.specs.Conversion.{inSecondaryRange, convertedByBus, converted}
 use Rattle.claims.specs.Claims.{chassisOf}
+use Rattle.claims.proofs.Converts.{takes-what}
 use Rattle.claims.proofs.Joined.{claims-id}
 use Rattle.judge.specs.Checking.{checkOf, checkAnswer, checkFinding, checkNumber}
 use Rattle.demands.specs.Worked.{zeros, u16, u32, headerFor, recordOf, switchWith, worked}
 use Rattle.demands.proofs.Demands.{demand-3}
-use Rattle.demands.proofs.Tests.{either-or, empty, apart, within, never-both}
+use Rattle.demands.proofs.Tests.{either-or, empty, apart, within, elsewhere, never-both}
 use Rattle.demands.proofs.FourPorts.{fourPorts, reads, id, unshared-where}
 
 abbrev c : Chassis
@@ -86,6 +88,22 @@ module _ (n : ℕ) where
             (rw (buses n .1, buses n .3) (within 4 4 2 4 (busOf n) (omega arith) (omega arith))),
       )
 
+  -- what the two ports with children take: their bus Secondary
+  taken-buses : (takes (c .conversion 0 (id n)) ≡ (c .claims 0 (id n) && (between 1 4 (busOf n) && eqb (busOf n) 1)))
+      × (takes (c .conversion 1 (id n)) ≡ (c .claims 1 (id n) && (between 2 4 (busOf n) && eqb (busOf n) 2)))
+  unfolding zeros u16 u32 headerFor recordOf switchWith u16At u32At bridgeAt fpbAt portAt recordAt busClaims
+  taken-buses = (takes-what _ _ n, takes-what _ _ n)
+
+  untaken-id : faulty Taken c (id n) ≡ false
+  unfolding zeros u16 u32 headerFor recordOf switchWith u16At u32At bridgeAt fpbAt portAt recordAt anyBelow takenAt faulty
+  untaken-id =
+      rw (taken-buses .0, taken-buses .1, buses n .1, buses n .2, buses n .3)
+      (simp (
+        elsewhere 2 4 1 (busOf n) (c .claims 0 (id n)) (between 1 4 (busOf n)) (omega arith),
+        elsewhere 3 3 2 (busOf n) (between 2 4 (busOf n)) (between 2 4 (busOf n)) (omega arith),
+        elsewhere 4 4 2 (busOf n) (between 2 4 (busOf n)) (between 2 4 (busOf n)) (omega arith),
+      ))
+
   unshared-address : faulty Shared c (Addr n) ≡ false
   unfolding zeros u16 u32 headerFor recordOf switchWith u16At u32At portAt recordAt holds anyBelow clash clashesWith faulty
   unshared-address = simp (windows n .3, and-false)
@@ -107,6 +125,8 @@ says-clear = (no-fault, anyBelow-false (ownIdLost c) (c .tree .count) .0 kept)
     no-fault Shared (Addr a) l = unshared-address a
     no-fault Stray (Id rid) l = unstrayed-id (rid .0)
     no-fault Stray (Addr a) l = unstrayed-address a
+    no-fault Taken (Id rid) l = untaken-id (rid .0)
+    no-fault Taken (Addr a) l = no-address-taken c a
 
 pub worked-passes : checkNumber (checkAnswer worked) ≡ 0
 unfolding checkOf checkFinding

@@ -1,28 +1,24 @@
 -- Worked trials, so that no statement about a picture and a patch is empty: the worked chassis with the patch of no ports passes, and a
 -- picture of one port, which passes, fails with a patch that sets the entry of its own ID. Assumes nothing.
-use Prim.Native.Nat.{ℕ, zero, suc, _/_, _%_}
+use Prim.Native.Nat.{ℕ}
 use mathlib.Core.Bool.{Bool, true, false, and-false}
 use mathlib.Core.Logic.{_⊎_}
 use mathlib.Core.Path.{_≡_, refl, ap, _∙_}
-use native.Mathlib.Nat.{div-eq-of-lt}
 use native.Mathlib.Omega.{arith}
 use lib.Dec.{eqb}
-use lib.ListN.{getD}
-use lib.Pow.{pow-pos}
 use borrow.Author.Tests.{ne-eqb}
 use Rattle.ids.specs.declared.Target.{Target}
 use Rattle.ids.specs.declared.Target.the-variants.{Id, Addr}
 use Rattle.ids.specs.Ids.{portNo}
 use Rattle.least.specs.Least.{firstOf, firstIn}
 use Rattle.lent.specs.Lent.{u16At, u32At}
-use Rattle.vectors.specs.declared.Settings.{Settings}
-use Rattle.vectors.specs.Vectors.{entryAt, applies, isSet, hits}
+use Rattle.vectors.specs.Vectors.{isSet, hits}
 use Rattle.chassis.specs.declared.Fault.{Fault}
-use Rattle.chassis.specs.declared.Fault.the-variants.{Shared, Stray}
+use Rattle.chassis.specs.declared.Fault.the-variants.{Shared, Stray, Taken}
 use Rattle.chassis.specs.declared.Hold.{Hold}
 use Rattle.chassis.specs.declared.Verdict.the-variants.{Clear, Shared as Found·Shared}
 use Rattle.chassis.specs.Chassis.{atLeastOne}
-use Rattle.chassis.specs.Check.{clash, clashesWith, straysAt, ownIdLost, faulty}
+use Rattle.chassis.specs.Check.{clash, clashesWith, straysAt, ownIdLost, takenAt, faulty}
 use Rattle.chassis.specs.Findings.{Lowest, Earlier, NoneWith, Says, with-itself}
 use Rattle.chassis.specs.OneEnd.{InRange, OneEnd}
 use Rattle.chassis.specs.Tree.{anyBelow, treeBroken, oneAbove, above, chainTooLong}
@@ -50,6 +46,7 @@ use Rattle.demands.specs.Worked.{zeros, u16, u32, worked, nothing, onePo
 use Rattle.demands.proofs.Trials.{trial-2, trial-3, trial-overlap}
 use Rattle.demands.proofs.FourPorts.{fourPorts, id}
 use Rattle.demands.proofs.Worked.{worked-reads, worked-passes}
+use Rattle.demands.proofs.Zeros.{clear}
 
 -- the patch of no ports is accepted
 pub nothing-accepted : readingWith worked nothing ≡ Read fourPorts
@@ -79,24 +76,14 @@ pub one-reads : reading onePort ≡ Read oneVector
 unfolding zeros u16 u32 onePort reading portsReading misplacedIn breaks runningOffset placeWrong endWrong headerOf lengthWrong editionWrong countWrong totalWrong offsetWrong sizeReserved granularityAllowed mechanismWrong memoryBitsWrong settingsWrong withAri startBroken startWrong settingsOf vectorBytes bridgeAt fpbAt portAt recordAt treeBroken oneAbove above chainTooLong firstOf firstIn u16At u32At
 one-reads = refl
 
--- an entry of zeros is clear, so the port claims no ID
-zero-at : (n i : ℕ) → getD (zeros n) i 0 ≡ 0
-unfolding zeros
-zero-at zero i = refl
-zero-at (suc n) zero = refl
-zero-at (suc n) (suc i) = zero-at n i
-
-clear : (n : ℕ) (g : Settings) (t : ℕ) → hits (zeros n) g t ≡ false
-unfolding isSet hits
-clear n g t = rw (zero-at n (entryAt g t / 8), div-eq-of-lt (pow-pos (entryAt g t % 8))) (and-false (applies g t))
-
+-- its entries are clear, so the port claims no ID
 unclaimed : (n : ℕ) → chassisOf onePort .claims 0 (id n) ≡ false
 unfolding zeros u16 u32 onePort u16At u32At bridgeAt fpbAt portAt recordAt vectorBytes vectorOf busClaims vectorClaims
 unclaimed n = claims-id _ _ n ∙ clear 32 _ n
 
 -- nothing is at fault
 says-clear : Says (chassisOf onePort) Clear
-unfolding zeros u16 u32 onePort u16At u32At bridgeAt portAt recordAt memorySpaceEnabled addressDecoders atLeastOne anyBelow clash clashesWith straysAt ownIdLost faulty
+unfolding zeros u16 u32 onePort u16At u32At bridgeAt portAt recordAt memorySpaceEnabled addressDecoders atLeastOne anyBelow clash clashesWith straysAt ownIdLost takenAt faulty
 says-clear = (no-fault, anyBelow-false (ownIdLost (chassisOf onePort)) 1 .0 refl)
   where
     no-fault : (fault : Fault) → NoneWith fault (chassisOf onePort)
@@ -104,6 +91,8 @@ says-clear = (no-fault, anyBelow-false (ownIdLost (chassisOf onePort)) 1 .0 refl
     no-fault Shared (Addr a) l = refl
     no-fault Stray (Id rid) l = refl
     no-fault Stray (Addr a) l = refl
+    no-fault Taken (Id rid) l = refl
+    no-fault Taken (Addr a) l = refl
 
 -- so it passes
 pub one-passes : checkNumber (checkAnswer onePort) ≡ 0

@@ -15,19 +15,23 @@ use Rattle.registers.specs.Rules.{withAri}
 use Rattle.claims.specs.Decoders.{busClaims, vectorClaims, memoryClaims, prefetchableClaims, lowClaims, highClaims, vgaEnabled, videoClaims, memorySpaceEnabled, idDecoders, addressDecoders}
 use Rattle.claims.specs.Conversion.{inSecondaryRange, convertedByBus, converted}
 use Rattle.claims.specs.Claims.{chassisOf}
+use Rattle.picture.specs.declared.Header.{Header}
+use Rattle.picture.specs.declared.Reading.the-variants.{Read}
+use Rattle.picture.specs.Reading.{reading}
 use Rattle.judge.specs.Asking.{targetAsked, idTooLarge}
 use Rattle.judge.specs.Walking.{packetOf, isStart, askedWrongly, endedWalk, WalkGives}
 use Rattle.trees.specs.Trees.{treeOf}
-use Rattle.demands.specs.Worked.{zeros, u16, u32, headerFor, recordOf, switchWith, portNos, cameTo, WorkedWalks}
-use Rattle.demands.proofs.FourPorts.{reads}
+use Rattle.demands.specs.Worked.{zeros, u16, u32, headerFor, recordOf, switchWith, worked, doubled, portNos, cameTo, WorkedWalks}
+use Rattle.demands.proofs.FourPorts.{fourPorts, reads}
 
 -- an answer that the rules lead to is given
-given : (bus kind start target : ℕ) (crossed : List ℕ) (end : End) → askedWrongly (treeOf (switchWith bus)) kind start target ≡ false
-    → Walk (chassisOf (switchWith bus)) (packetOf kind target) (comeTo start) (portNos crossed) end
-    → WalkGives (switchWith bus) kind start target (cameTo end crossed)
+pub given : (s : List ℕ) (h : Header) → reading s ≡ Read h → (kind start target : ℕ) (crossed : List ℕ) (end : End)
+    → askedWrongly (treeOf s) kind start target ≡ false
+    → Walk (chassisOf s) (packetOf kind target) (comeTo start) (portNos crossed) end
+    → WalkGives s kind start target (cameTo end crossed)
 unfolding endedWalk
-given bus kind start target crossed end right walk =
-    rw (reads bus)
+given s h is kind start target crossed end right walk =
+    rw is
     (rw right (
       record { end = end; path = cameTo end crossed .path },
       record { crossed = portNos crossed; walk = walk; named = refl },
@@ -38,13 +42,13 @@ pub worked-walks : WorkedWalks
 unfolding zeros u16 u32 headerFor recordOf switchWith u16At u32At bridgeAt fpbAt portAt recordAt withAri busClaims vectorClaims memoryClaims prefetchableClaims lowClaims highClaims vgaEnabled videoClaims memorySpaceEnabled idDecoders atLeastOne addressDecoders inSecondaryRange convertedByBus converted holds withPort lowestTwo passesAt anyBelow isDevicePort functionNumber decided downward byHolders soleHolder deviceOr comeTo upward fromBelow underType0 underType1 next targetAsked packetOf idTooLarge isStart askedWrongly
 worked-walks =
     record {
-      down = given 4 0 255 0x0300 (0 ∷ 1 ∷ 2 ∷ []) (Device (portNo 2) 0) refl (goes refl (goes refl (goes refl (ends refl))));
-      across = given 4 0 3 0x0300 (3 ∷ 2 ∷ []) (Device (portNo 2) 0) refl (goes refl (goes refl (ends refl)));
-      own-id = given 4 0 255 0x0200 (0 ∷ 1 ∷ []) (Function (portNo 2)) refl (goes refl (goes refl (ends refl)));
-      own-device = given 4 1 2 0xE0000000 [] (Unsupported (portNo 2)) refl (ends refl);
-      other-device = given 4 1 3 0xE0000000 (3 ∷ 2 ∷ []) (Device (portNo 2) 0) refl (goes refl (goes refl (ends refl)));
-      up = given 4 1 2 0 (2 ∷ 1 ∷ 0 ∷ []) Host refl (goes refl (goes refl (goes refl (ends refl))));
-      configures = given 4 2 255 0x0300 (0 ∷ 1 ∷ 2 ∷ []) (Device (portNo 2) 0) refl (goes refl (goes refl (goes refl (ends refl))));
-      refuses = given 4 2 255 0x0308 (0 ∷ 1 ∷ []) (Unsupported (portNo 2)) refl (goes refl (goes refl (ends refl)));
-      doubles = given 3 0 255 0x0300 (0 ∷ 1 ∷ []) (Doubled (portNo 2) (portNo 3)) refl (goes refl (goes refl (ends refl)));
+      down = given worked fourPorts (reads 4) 0 255 0x0300 (0 ∷ 1 ∷ 2 ∷ []) (Device (portNo 2) 0) refl (goes refl (goes refl (goes refl (ends refl))));
+      across = given worked fourPorts (reads 4) 0 3 0x0300 (3 ∷ 2 ∷ []) (Device (portNo 2) 0) refl (goes refl (goes refl (ends refl)));
+      own-id = given worked fourPorts (reads 4) 0 255 0x0200 (0 ∷ 1 ∷ []) (Function (portNo 2)) refl (goes refl (goes refl (ends refl)));
+      own-device = given worked fourPorts (reads 4) 1 2 0xE0000000 [] (Unsupported (portNo 2)) refl (ends refl);
+      other-device = given worked fourPorts (reads 4) 1 3 0xE0000000 (3 ∷ 2 ∷ []) (Device (portNo 2) 0) refl (goes refl (goes refl (ends refl)));
+      up = given worked fourPorts (reads 4) 1 2 0 (2 ∷ 1 ∷ 0 ∷ []) Host refl (goes refl (goes refl (goes refl (ends refl))));
+      configures = given worked fourPorts (reads 4) 2 255 0x0300 (0 ∷ 1 ∷ 2 ∷ []) (Device (portNo 2) 0) refl (goes refl (goes refl (goes refl (ends refl))));
+      refuses = given worked fourPorts (reads 4) 2 255 0x0308 (0 ∷ 1 ∷ []) (Unsupported (portNo 2)) refl (goes refl (goes refl (ends refl)));
+      doubles = given doubled fourPorts (reads 3) 0 255 0x0300 (0 ∷ 1 ∷ []) (Doubled (portNo 2) (portNo 3)) refl (goes refl (goes refl (ends refl)));
     }

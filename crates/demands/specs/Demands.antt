@@ -1,6 +1,7 @@
--- The three demands, of the very definitions that the public calls promise. Their proofs are in proofs/Demands.antt, under the same
--- names in small letters (demand-1, demand-1-buffer, demand-2, demand-3, overlap-exactly), and for a picture and a patch in
--- proofs/Trials.antt (trial-1, trial-2, trial-3, trial-overlap): 02, Item 2: "Demands 2 and 3 read "picture and patch" from then on, and
+-- The three demands, of the very definitions that the public calls promise, and what 02, Item 7, adds to them. Their proofs are in
+-- proofs/Demands.antt, under the same names in small letters (demand-1, demand-1-buffer, demand-2, demand-3, overlap-exactly), and for a
+-- picture and a patch in proofs/Trials.antt (trial-1, trial-2, trial-3, trial-overlap); of Item 7 both are in proofs/EveryPort.antt
+-- (every-port-found, trial-every-port-found). 02, Item 2: "Demands 2 and 3 read "picture and patch" from then on, and
 -- a refused patch counts as one that does not read".
 mod Words
 use Words.*
@@ -16,7 +17,7 @@ abbrev pub ofReading : List ℕ
 ofReading = 0 ∷ 1 ∷ 2 ∷ 3 ∷ 4 ∷ 5 ∷ 6 ∷ 7 ∷ 8 ∷ 9 ∷ 10 ∷ []
 
 abbrev pub ofCheck : List ℕ
-ofCheck = ofReading ++ (11 ∷ 12 ∷ 13 ∷ 14 ∷ 15 ∷ [])
+ofCheck = ofReading ++ (11 ∷ 12 ∷ 13 ∷ 14 ∷ 15 ∷ 18 ∷ [])
 
 abbrev pub ofAsking : List ℕ
 ofAsking = ofReading ++ (16 ∷ [])
@@ -120,3 +121,19 @@ OverlapExactly s = FailsExactly (reading s) (checkAnswer s) (chassisOf s)
 
 abbrev pub TrialOverlap : List ℕ → List ℕ → Type 0
 TrialOverlap s patch = FailsExactly (readingWith s patch) (trialCheck s patch) (chassisOf (patched s patch))
+
+-- 02, Item 7: "for every picture that passes, a configuration request from the host for any port's own ID must end at that port's
+-- Function": the walk call's answer, of which there is one (demand 2), to packet kind 2 from start 255. What is lent are bytes.
+abbrev pub Bytes : List ℕ → Type 0
+Bytes s = (i : ℕ) → getD s i 0 < 2 ^ 8
+
+abbrev pub FindsEach : CheckAnswer → Chassis → (ℕ → ℕ → ℕ → WalkAnswer → Type 0) → Type 0
+FindsEach a c Gives =
+    checkNumber a ≡ 0 → (p : ℕ) → p < c .tree .count
+    → (x : WalkAnswer) × Gives 2 255 (c .ownId p) x × (x .outcome ≡ Ended (Function (portNo p)))
+
+abbrev pub EveryPortFound : List ℕ → Type 0
+EveryPortFound s = Bytes s → FindsEach (checkAnswer s) (chassisOf s) (WalkGives s)
+
+abbrev pub TrialEveryPortFound : List ℕ → List ℕ → Type 0
+TrialEveryPortFound s patch = Bytes s → FindsEach (trialCheck s patch) (chassisOf (patched s patch)) (TrialGives s patch)

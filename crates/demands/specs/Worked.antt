@@ -1,7 +1,8 @@
 -- A worked chassis, so that no demand is empty: a picture of a root port, a switch below it, and a device below each of its two
 -- downstream ports. It passes the check (proofs/Worked.antt), and walks through it are computed (proofs/WorkedWalks.antt); a picture
--- that differs in one port's bus fails (proofs/Doubled.antt), and so does one of two displays (proofs/WorkedVideo.antt). With patches,
--- so that no trial is empty either: proofs/WorkedTrial.antt.
+-- that differs in one port's bus fails (proofs/Doubled.antt), and so does one of two displays (proofs/WorkedVideo.antt). Of two chains
+-- that differ in one register the host finds every port of one, which passes, and loses one of the other, whose only fault is 18
+-- (proofs/WorkedChain.antt). With patches, so that no trial is empty either: proofs/WorkedTrial.antt.
 use Prim.Native.Nat.{ℕ, zero, suc, _+_, _*_, _/_, _%_}
 use mathlib.Core.List.{List, [], _∷_, _++_}
 use Rattle.chassis.specs.declared.End.{End}
@@ -77,6 +78,35 @@ displayOf own =
 unfoldable pub displays : List ℕ
 displays = headerFor 2 ++ displayOf 0x0008 ++ displayOf 0x0010
 
+-- a port without Memory Space Enable: kind, parent, own ID, bus pair, FPB Capabilities to RID Vector Control 2, where its vectors start
+unfoldable pub bridgeOf : ℕ → ℕ → ℕ → ℕ → ℕ → List ℕ → ℕ → List ℕ
+bridgeOf kind parent own secondary subordinate rid vectors =
+    (kind ∷ parent ∷ [])
+    ++ u16 own
+    ++ u16 0
+    ++ (secondary ∷ subordinate ∷ [])
+    ++ zeros 20
+    ++ rid
+    ++ zeros 12
+    ++ u32 vectors
+
+-- a root port, an upstream and a downstream port in a chain. The root port has RID decoding enabled, with 256 entries, all clear, so that
+-- its Secondary range counts: the one unit `start`
+unfoldable pub chainFrom : ℕ → List ℕ
+chainFrom start =
+    (u16 1 ++ u16 3 ++ u32 216 ++ u32 16 ++ u32 184)
+    ++ bridgeOf 0 255 0x0008 1 3 (u32 1 ++ u32 1 ++ u32 (start * 8)) 184
+    ++ bridgeOf 1 0 0x0100 2 3 (zeros 12) 216
+    ++ bridgeOf 2 1 0x0200 3 3 (zeros 12) 216
+    ++ zeros 32
+
+-- the unit of the upstream port's own ID, 0100h; and that of the downstream port's, 0200h, which the root port must pass on
+abbrev pub foundChain : List ℕ
+foundChain = chainFrom 0x20
+
+abbrev pub takenChain : List ℕ
+takenChain = chainFrom 0x40
+
 -- the patch of no ports
 abbrev pub nothing : List ℕ
 nothing = u32 0 ++ u32 8
@@ -119,3 +149,11 @@ pub record WorkedWalks : Type 0 where
   pub refuses : WalkGives worked 2 255 0x0308 (cameTo (Unsupported (portNo 2)) (0 ∷ 1 ∷ []))
   -- and where both downstream ports have bus 3, the first of these ends below port 1
   pub doubles : WalkGives doubled 0 255 0x0300 (cameTo (Doubled (portNo 2) (portNo 3)) (0 ∷ 1 ∷ []))
+
+-- The host's configuration requests for the own IDs of the two lower ports of a chain.
+pub record ChainWalks : Type 0 where
+  pub upstream-found : WalkGives foundChain 2 255 0x0100 (cameTo (Function (portNo 1)) (0 ∷ []))
+  pub downstream-found : WalkGives foundChain 2 255 0x0200 (cameTo (Function (portNo 2)) (0 ∷ 1 ∷ []))
+  pub upstream-still : WalkGives takenChain 2 255 0x0100 (cameTo (Function (portNo 1)) (0 ∷ []))
+  -- the root port takes this one as its own, as Type 0, and below it no port has that ID
+  pub downstream-lost : WalkGives takenChain 2 255 0x0200 (cameTo (Unsupported (portNo 0)) (0 ∷ []))

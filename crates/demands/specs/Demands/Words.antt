@@ -1,17 +1,18 @@
 -- The words of the demands: what the definitions of the other crates are called there.
-pub use Prim.Native.Nat.{ℕ, _<_}
+pub use Prim.Native.Nat.{ℕ, _<_, _^_}
 pub use mathlib.Core.Bool.{Bool, true, false, _||_}
 pub use mathlib.Core.List.{List, [], _∷_, _++_}
 pub use mathlib.Core.Logic.{_↔_, _⊎_}
 pub use mathlib.Core.Path.{_≡_}
 pub use lib.Dec.{eqb}
-pub use lib.ListN.{length, replicate}
+pub use lib.ListN.{length, replicate, getD}
 pub use Rattle.ids.specs.declared.PortNo.{PortNo}
 pub use Rattle.ids.specs.declared.Target.{Target}
 pub use Rattle.ids.specs.declared.Target.the-variants.{Id}
-pub use Rattle.ids.specs.Ids.{noPort}
+pub use Rattle.ids.specs.Ids.{portNo, noPort}
 pub use Rattle.chassis.specs.declared.Verdict.{Verdict}
 pub use Rattle.chassis.specs.declared.End.{End}
+pub use Rattle.chassis.specs.declared.End.the-variants.{Function}
 pub use Rattle.chassis.specs.Chassis.{Chassis, holds, atLeastOne, holdOf, isHeld}
 pub use Rattle.chassis.specs.Findings.{Clashing, Says}
 pub use Rattle.chassis.specs.OneEnd.{InRange, OneEnd}
