@@ -1,5 +1,5 @@
 /* chassis PICTURE [KIND START TARGET]: what the judge says of a picture file, and where one packet goes in it. For a target that is
- * held twice, or astray, it says by what each port holds it.
+ * held twice, astray, or taken by the port above, it says by what each port holds it.
  * KIND is id, address or config; START is host or a device port's number; TARGET is hexadecimal, with or without 0x.
  * Status: 0 clear, and the packet comes to its end; 1 refused, Unsupported Request or doubled; 2 an argument, the file or the
  * output will not do. */
@@ -35,7 +35,7 @@ static void print_ports(const uint8_t *answer, const char *before)
 /* Whether the number gives a least target, which the ports that it names hold. */
 static int has_target(uint32_t number)
 {
-    return number >= FPB_SHARED_ID && number <= FPB_STRAY_ADDRESS;
+    return (number >= FPB_SHARED_ID && number <= FPB_STRAY_ADDRESS) || number == FPB_TAKEN_ID;
 }
 
 static void print_number(uint32_t number, const uint8_t *answer)
@@ -72,11 +72,11 @@ static void print_hold(size_t length, uint32_t port, uint32_t kind, uint64_t tar
     printf("\n");
 }
 
-/* Prints by what the ports hold the target that the check names with 11 to 14; one that claims its own ID is named twice. */
+/* Prints by what the ports hold the target that the check names with 11 to 14 or 18; one that claims its own ID is named twice. */
 static void print_holds(size_t length, uint32_t number, const uint8_t *answer)
 {
     uint8_t port = answer[FPB_AT_PORT], second = answer[FPB_AT_SECOND_PORT];
-    uint32_t kind = number == FPB_SHARED_ID || number == FPB_STRAY_ID ? FPB_ID : FPB_ADDRESS;
+    uint32_t kind = number == FPB_SHARED_ADDRESS || number == FPB_STRAY_ADDRESS ? FPB_ADDRESS : FPB_ID;
     print_hold(length, port, kind, fpb_least_target(answer));
     if (second != FPB_NO_PORT && second != port) {
         print_hold(length, second, kind, fpb_least_target(answer));

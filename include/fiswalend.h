@@ -2,6 +2,7 @@
  *
  * A picture is a chassis of 1 to 64 PCIe ports as bytes: a header, a record for each port, their vectors; docs/PICTURE.md of the
  * source has its format and the table of numbers. fpb_check says whether it is sound, fpb_walk says where one packet goes in it.
+ * In a sound picture a configuration request from the host for the own ID of any port ends at that port's Function.
  * fpb_trial_check and fpb_trial_walk say the same of a picture with the vectors of a patch put in, for some of its ports.
  * fpb_claim says which decoders of one port claim a target, fpb_convert what the port makes of a configuration request.
  * What they return and write is proved, for every picture, every patch, every buffer and every number.
@@ -30,9 +31,9 @@ extern "C" {
 
 /* The version of this header and of the archive that it comes with, as numbers and as text. */
 #define FPB_VERSION_MAJOR 1
-#define FPB_VERSION_MINOR 4
+#define FPB_VERSION_MINOR 5
 #define FPB_VERSION_PATCH 0
-#define FPB_VERSION "1.4.0"
+#define FPB_VERSION "1.5.0"
 
 /* The bytes of an answer, and the places in its path. */
 #define FPB_ANSWER_LENGTH 40
@@ -42,8 +43,8 @@ extern "C" {
 #define FPB_NO_PORT 255
 #define FPB_HOST 255
 
-/* The number that a call returns. 17 is looked for first, then 1 to 10, then 30 to 32, then 16 or 11 to 15; the first that
- * applies is given, and of several ports the lowest. */
+/* The number that a call returns. 17 is looked for first, then 1 to 10, then 30 to 32, then 16, or 11 to 15 and after them 18; the
+ * first that applies is given, and of several ports the lowest. */
 enum fpb_number {
     FPB_CLEAR = 0,          /* the check found nothing; the walk came to an end; the claim or the conversion is answered */
     FPB_LENGTH = 1,         /* the picture has under 72 or over 65,536 bytes */
@@ -64,6 +65,8 @@ enum fpb_number {
     FPB_QUESTION = 16,      /* walk: packet kind over 2, an ID over FFFFh, or a start that is no device port and not the host;
                              * claim and conversion: a port that the picture does not have, a kind over 1, an ID over FFFFh */
     FPB_BUFFER = 17,        /* the answer buffer has under 40 bytes; nothing was looked at, nothing written */
+    FPB_TAKEN_ID = 18,      /* check: an ID claimed by a port whose parent makes configuration requests for it Type 0, or answers
+                             * them with Unsupported Request, and does not pass them on as Type 1; names the port, and the ID */
     FPB_PATCH_HEADER = 30,  /* trial: a patch under 8 bytes, or without room for its ports, or whose total is not the length given */
     FPB_PATCH_PORTS = 31,   /* trial: a port of the patch stands twice, out of order, or is not in the picture */
     FPB_PATCH_VECTORS = 32  /* trial: an offset is not where the vectors before end, or the last do not end at the total */
@@ -116,11 +119,14 @@ enum fpb_offset {
     FPB_AT_FUNCTION = 5,    /* the Function number where a configuration request ends at a device, else 0 */
     FPB_AT_ZEROS = 6,       /* two zeros */
     FPB_AT_PATH = 8,        /* 32 places: the ports crossed, in crossing order, then FPB_NO_PORT in the places not used */
-    FPB_AT_LEAST_TARGET = 8 /* numbers 11 to 14: the least such ID or address, little-endian in the first 8 places */
+    FPB_AT_LEAST_TARGET = 8 /* numbers 11 to 14 and 18: the least such ID or address, little-endian in the first 8 places */
 };
 
-/* Whether a picture is sound. Returns a number, 0 to 15 or 17. With a buffer of 40 bytes or more the first 40 are written and
- * the rest kept; with a shorter one nothing is written. */
+/* Whether a picture is sound. Returns a number, 0 to 15, 17 or 18. With a buffer of 40 bytes or more the first 40 are written and
+ * the rest kept; with a shorter one nothing is written.
+ *
+ * With 0, a configuration request from the host for the own ID of any port ends at that port's Function: fpb_walk with FPB_CONFIG,
+ * FPB_HOST and that ID gives FPB_END_FUNCTION at that port. */
 uint32_t fpb_check(const uint8_t *picture, size_t picture_len, uint8_t *answer, size_t answer_len);
 
 /* Where a packet goes: of a kind (enum fpb_kind), from the host (start FPB_HOST) or from the device below port `start`, to a
@@ -141,8 +147,9 @@ uint32_t fpb_walk(const uint8_t *picture, size_t picture_len, uint8_t *answer, s
  * A port without vectors may stand in it, with no bytes. The 8 bytes of no port change nothing.
  *
  * Refusals are looked for in this order: 17, then 1 to 10 of the picture, then 30, 31 and 32, each over the whole patch before
- * the next and naming no port, then 16 for the walk or 11 to 15 for the check. fpb_trial_check returns 0 to 15, 17 or 30 to 32;
- * fpb_trial_walk 0 to 10, 16, 17 or 30 to 32. The buffer as for fpb_check. */
+ * the next and naming no port, then 16 for the walk, or 11 to 15 and then 18 for the check. fpb_trial_check returns 0 to 15, 17, 18
+ * or 30 to 32; fpb_trial_walk 0 to 10, 16, 17 or 30 to 32. The buffer as for fpb_check. With 0 from fpb_trial_check, every port
+ * is found so by fpb_trial_walk with the same patch. */
 uint32_t fpb_trial_check(const uint8_t *picture, size_t picture_len, const uint8_t *patch, size_t patch_len, uint8_t *answer,
                          size_t answer_len);
 uint32_t fpb_trial_walk(const uint8_t *picture, size_t picture_len, const uint8_t *patch, size_t patch_len, uint8_t *answer,
@@ -153,7 +160,8 @@ uint32_t fpb_trial_walk(const uint8_t *picture, size_t picture_len, const uint8_
  * kept: 1 to 10, then 16 for a port that the picture does not have, a kind over 1, or an ID over FFFFh.
  *
  * A port's own ID is no claim and no bit: a port that holds an ID, as those do that the check names with 11 and 13, holds it as its
- * own, by the decoders, or both. Its own ID stands in its record, at byte 16 + 56 * port + 2 of the picture, little-endian.
+ * own, by the decoders, or both; the port that 18 names claims the ID, and it is not its own. Its own ID stands in its record, at
+ * byte 16 + 56 * port + 2 of the picture, little-endian.
  *
  * This call and the next speak of the picture alone, also of a port that a trial call has named: the vectors of a patch are not
  * looked at. The picture must read, and need not be sound. */
@@ -169,7 +177,7 @@ static inline uint8_t fpb_crossed(const uint8_t *answer, size_t i)
     return answer[FPB_AT_PATH + i];
 }
 
-/* The least target of a check's answer with number 11 to 14. */
+/* The least target of a check's answer with number 11 to 14 or 18. */
 static inline uint64_t fpb_least_target(const uint8_t *answer)
 {
     uint64_t target = 0;
@@ -202,7 +210,8 @@ static inline const char *fpb_number_text(uint32_t number)
         "a port's own ID is not both claimed and made Type 0 by its parent",
         "a kind, an ID, a start or a port was asked for that there is not",
         "the answer buffer is shorter than 40 bytes",
-        NULL, NULL, NULL, NULL, NULL, NULL, NULL, NULL, NULL, NULL, NULL, NULL, /* 18 to 29 */
+        "a port claims an ID that its parent makes Type 0 or refuses and does not pass on as Type 1",
+        NULL, NULL, NULL, NULL, NULL, NULL, NULL, NULL, NULL, NULL, NULL, /* 19 to 29 */
         "the patch is too short for its header or its list of ports, or the total length in its header is not its length",
         "a port stands twice in the patch, out of order, or is not in the picture",
         "a port's new vectors do not begin where they must, or the last ones do not end where the patch ends",

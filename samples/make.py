@@ -92,6 +92,45 @@ def beside_display(low):
     return Port(DOWNSTREAM, 1, 0x0208, buses=(4, 4), bridge_control=VGA_16_BIT).vector(LOW, 0, 4, 0, low)
 
 
+def flat(kind, parent, own, start, units, secondary, num_sec_dev=0, **registers):
+    """A port without buses: it has units by a RID vector from `start` on, and a Secondary range."""
+    entries = [unit - start for unit in units]
+    return Port(kind, parent, own, **registers).vector(RID, 0, 0, start, entries).secondary(secondary, num_sec_dev)
+
+
+def below_ari(units):
+    """The upstream port below one with ARI, which takes configuration requests for all of bus 2."""
+    return flat(UPSTREAM, 3, 0x0200, 0x40, units, 0x60)
+
+
+def two_switches(rid_enabled):
+    """A switch below a switch. The Secondary range of port 1 is 32 devices from 02:01.0 on, one device too far: to 03:00.7."""
+    return [
+        Port(ROOT, 255, 0x0008, buses=(1, 6)),
+        Port(UPSTREAM, 0, 0x0100, buses=(2, 6)).vector(RID, 0, 0, 0x40, [], enabled=rid_enabled).secondary(0x41, 31),
+        Port(DOWNSTREAM, 1, 0x0208, buses=(3, 5)),
+        Port(UPSTREAM, 2, 0x0300, buses=(4, 5)),
+        Port(DOWNSTREAM, 3, 0x0400, buses=(5, 5)),
+        Port(DOWNSTREAM, 1, 0x0210, buses=(6, 6)),
+    ]
+
+
+def third_root(**registers):
+    """Two root ports with a device each, and one with a switch: its Secondary Start is 03:01.0, a port inside that switch."""
+    return [
+        Port(ROOT, 255, 0x0008, buses=(1, 1)),
+        Port(ROOT, 255, 0x0010, buses=(5, 5)),
+        Port(ROOT, 255, 0x0018, buses=(2, 4), **registers).vector(RID, 0, 0, 0x40, []).secondary(0x61),
+        Port(UPSTREAM, 2, 0x0200, buses=(3, 4)).vector(RID, 0, 0, 0x60, [1]),
+        Port(DOWNSTREAM, 3, 0x0308, buses=(4, 4)),
+    ]
+
+
+def scattered(entries):
+    """A port with bus 4, and more by a RID vector from 02:00.0 on."""
+    return Port(DOWNSTREAM, 1, 0x0208, buses=(4, 4)).vector(RID, 0, 0, 0x40, entries)
+
+
 def chain(length):
     """A root port and below it upstream and downstream ports in turn."""
     kinds = [ROOT] + [UPSTREAM if i % 2 else DOWNSTREAM for i in range(1, length)]
@@ -223,6 +262,46 @@ SAMPLES = {
         Port(DOWNSTREAM, 1, 0x0208, buses=(4, 4), bridge_control=VGA),
     ]),
     'eight-before-nine': picture([Port(ROOT, 255, 8).vector(LOW, 0, 4, 8, [0]), Port(ROOT, 255, 16, memory=(0xE001, 0xE000))]),
+    # switches without buses of their own, sound: each port finds the ports right below it by its Secondary range, of each form
+    'flat-switch': picture([
+        flat(ROOT, 255, 0x0008, 0x20, [*range(0x20, 0x24), *range(0x40, 0x62)], 0x20),
+        flat(UPSTREAM, 0, 0x0100, 0x20, [*range(0x21, 0x24), *range(0x40, 0x62)], 0x21, 1),
+        flat(DOWNSTREAM, 1, 0x0108, 0x20, [0x23], 0x23),
+        flat(DOWNSTREAM, 1, 0x0110, 0x40, range(0x40, 0x62), 0x40, device_control_2=ARI),
+        below_ari([0x60, 0x61]),
+        flat(DOWNSTREAM, 4, 0x0300, 0x60, [0x61], 0x61),
+    ]),
+    # port 1 takes configuration requests for 03:00.0, which is port 3, two steps down
+    'taken-id': picture(two_switches(True)),
+    # the same with RID decoding off, so that the range does not count: sound
+    'range-off': picture(two_switches(False)),
+    # an entry of port 3 on the bus of the switch itself, Secondary of port 1
+    'taken-bus': picture(SWITCH[:3] + [scattered([8])]),
+    # the Secondary range of port 2 is one unit, and with ARI the whole bus
+    'taken-unit': picture(third_root()),
+    'taken-ari-bus': picture(third_root(device_control_2=ARI)),
+    # port 1 takes 03:01.0, and port 2 turns it away; port 0 takes 06:00.0, which is not the least
+    'taken-twice': picture([
+        Port(ROOT, 255, 0x0008, buses=(1, 6)).vector(RID, 0, 0, 0x20, []).secondary(0xC0),
+        Port(UPSTREAM, 0, 0x0100, buses=(2, 6)).vector(RID, 0, 0, 0x20, []).secondary(0x61),
+        Port(DOWNSTREAM, 1, 0x0200, buses=(3, 5)),
+        Port(UPSTREAM, 2, 0x0300, buses=(4, 5)).vector(RID, 0, 0, 0x60, [1]),
+        Port(DOWNSTREAM, 3, 0x0400, buses=(5, 5)),
+        Port(DOWNSTREAM, 1, 0x0208, buses=(6, 6)),
+    ]),
+    # a switch whose downstream ports are on bus 1 as it is, below a root port that turns away all devices there but 0
+    'turned-away': picture([
+        Port(ROOT, 255, 0x0008, buses=(1, 4)),
+        Port(UPSTREAM, 0, 0x0100, buses=(2, 4)).vector(RID, 0, 0, 0x20, [1, 2]).secondary(0x21, 1),
+        Port(DOWNSTREAM, 1, 0x0108, buses=(3, 3)),
+        Port(DOWNSTREAM, 1, 0x0110, buses=(4, 4)),
+    ]),
+    # the own ID of port 2 is on no bus that port 1 makes Type 0, and port 1 has an entry that port 0 turns away
+    'fifteen-before-eighteen': picture([
+        Port(ROOT, 255, 0x0008, buses=(1, 3)),
+        Port(UPSTREAM, 0, 0x0100, buses=(2, 3)).vector(RID, 0, 0, 0x20, [1]),
+        Port(DOWNSTREAM, 1, 0x0300),
+    ]),
 }
 
 # patches by the picture that they are for, and what they do
@@ -240,6 +319,10 @@ PATCHES = {
     # an entry that reaches over the video range, and one that does not
     'display-card.collides': patch((3, beside_display([0, 0xE1]))),
     'display-card.fits': patch((3, beside_display([0xE1, 0xE2]))),
+    # an entry on bus 2, which the port above takes
+    'flat-switch.taken': patch((4, below_ari([0x42, 0x60, 0x61]))),
+    # the entry is on bus 4, which the port has
+    'taken-bus.mends': patch((3, scattered([64]))),
     # a patch over a picture that does not read
     'short.nothing': patch(),
     'waiting-card.no-bytes': b'',

@@ -53,6 +53,7 @@ example() {
     local shared='number 12, an address has two holders at one place; port 2 and port 3, least target e0500000'
     local own='number 11, an ID has two holders at one place, or a port claims its own ID'
     local stray='number 13, a port holds an ID that its parent does not claim'
+    local taken='number 18, a port claims an ID that its parent makes Type 0 or refuses and does not pass on as Type 1'
     shared="$shared/port 2 holds it by low/port 3 holds it by low"
     local video='number 12, an address has two holders at one place; port 2 and port 3, least target a0000'
     video="$video/port 2 holds it by mem pref low vga/port 3 holds it by vga"
@@ -68,6 +69,10 @@ example() {
     prints 1 "check: $stray; port 1, least target 200/port 1 holds it by bus/" "$@" samples/stray-id.picture
     prints 1 "check: $stray; port 1, least target 8/port 1 holds it by own/" \
         "$@" samples/chain-of-16.picture
+    prints 1 "check: $taken; port 2, least target 300/port 2 holds it by bus/walk: unsupported request port 1, crossing 0 1/" \
+        "$@" samples/taken-id.picture config host 0300
+    prints 1 "check: $taken; port 3, least target 308/port 3 holds it by bus rid/" "$@" samples/taken-unit.picture
+    prints 0 'check: clear/walk: function port 3, crossing 0 1 2/' "$@" samples/range-off.picture config host 0300
     prints 1 "check: $chain/walk: $chain/" "$@" samples/chain-of-17.picture id 4 0300
     prints 1 'check: number 1, the picture is shorter than 72 bytes or longer than 65,536/' "$@" samples/short.picture
     prints 2 '|chassis: samples/none cannot be opened/' "$@" samples/none
@@ -100,6 +105,17 @@ example_words() {
 man_numbers() {
     awk '/^\.SH / { on = $2 == "NUMBERS" }
         on && /^\.BR FPB_/ { number = $NF; gsub(/[^0-9]/, "", number); getline; print number, $0 }' man/fiswalend.3
+}
+
+# clear_samples: that calls.c has every sample that is clear: it asks for every port of those, as the host does
+clear_samples() {
+    local report name
+    for report in samples/*.report; do
+        name=$(basename "$report" .report)
+        if grep -qx clear "$report"; then
+            expect "tests/c/calls.c has not $name as clear" grep -q "^    {\"$name\", {0, 0, 255, 255," tests/c/calls.c
+        fi
+    done
 }
 
 strict=(-Wall -Wextra -Wpedantic -Werror)
@@ -148,6 +164,7 @@ by_host() {
 
 expect "tools/install.sh" tools/install.sh "$work/lib"
 expect "the numbers of man/fiswalend.3" diff <(man_numbers) tests/number-texts
+clear_samples
 by_kit
 if command -v cc >/dev/null && command -v c++ >/dev/null; then compiled cc -fsyntax-only -I "$work/lib/include"; fi
 if [ "$(uname -m)" = x86_64 ] && command -v cc >/dev/null; then by_host; fi

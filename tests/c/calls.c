@@ -103,6 +103,16 @@ static const struct check_case checks[] = {
     {"stray-id", {13, 0, 1, 255, 0, 0, 0, 0}, 0x0200},
     {"stray-address", {14, 0, 1, 255, 0, 0, 0, 0}, 0xE0100000},
     {"own-id-lost", {15, 0, 1, 255, 0, 0, 0, 0}, 0},
+    {"waiting-card", {0, 0, 255, 255, 0, 0, 0, 0}, 0},
+    {"flat-switch", {0, 0, 255, 255, 0, 0, 0, 0}, 0},
+    {"range-off", {0, 0, 255, 255, 0, 0, 0, 0}, 0},
+    {"taken-id", {18, 0, 2, 255, 0, 0, 0, 0}, 0x0300},
+    {"taken-bus", {18, 0, 3, 255, 0, 0, 0, 0}, 0x0240},
+    {"taken-unit", {18, 0, 3, 255, 0, 0, 0, 0}, 0x0308},
+    {"taken-ari-bus", {18, 0, 3, 255, 0, 0, 0, 0}, 0x0300},
+    {"taken-twice", {18, 0, 2, 255, 0, 0, 0, 0}, 0x0308},
+    {"turned-away", {18, 0, 1, 255, 0, 0, 0, 0}, 0x0108},
+    {"fifteen-before-eighteen", {15, 0, 2, 255, 0, 0, 0, 0}, 0},
 };
 
 static const struct walk_case walks[] = {
@@ -132,6 +142,22 @@ static const struct walk_case walks[] = {
      0x2F08,
      {0, 4, 30, 255, 31, 0, 0, 0},
      {14, 13, 12, 11, 10, 9, 8, 7, 6, 5, 4, 3, 2, 1, 0, 15, 16, 17, 18, 19, 20, 21, 22, 23, 24, 25, 26, 27, 28, 29, 30}},
+    {"taken-id", FPB_CONFIG, FPB_HOST, 0x0300, {0, 4, 1, 255, 2, 0, 0, 0}, {0, 1}},
+    {"taken-id", FPB_CONFIG, FPB_HOST, 0x0307, {0, 4, 1, 255, 2, 0, 0, 0}, {0, 1}},
+    {"taken-id", FPB_CONFIG, FPB_HOST, 0x0308, {0, 4, 2, 255, 2, 0, 0, 0}, {0, 1}},
+    {"taken-id", FPB_CONFIG, FPB_HOST, 0x0400, {0, 2, 4, 255, 4, 0, 0, 0}, {0, 1, 2, 3}},
+    {"taken-id", FPB_ID, FPB_HOST, 0x0300, {0, 2, 3, 255, 3, 0, 0, 0}, {0, 1, 2}},
+    {"taken-id", FPB_ID, 5, 0x0300, {0, 2, 3, 255, 2, 0, 0, 0}, {5, 2}},
+    {"range-off", FPB_CONFIG, FPB_HOST, 0x0300, {0, 2, 3, 255, 3, 0, 0, 0}, {0, 1, 2}},
+    {"taken-bus", FPB_CONFIG, FPB_HOST, 0x0240, {0, 4, 1, 255, 2, 0, 0, 0}, {0, 1}},
+    {"taken-bus", FPB_ID, FPB_HOST, 0x0240, {0, 1, 3, 255, 3, 0, 0, 0}, {0, 1, 3}},
+    {"taken-unit", FPB_CONFIG, FPB_HOST, 0x0308, {0, 4, 2, 255, 1, 0, 0, 0}, {2}},
+    {"taken-ari-bus", FPB_CONFIG, FPB_HOST, 0x0308, {0, 4, 2, 255, 1, 0, 0, 0}, {2}},
+    {"taken-twice", FPB_CONFIG, FPB_HOST, 0x0308, {0, 4, 1, 255, 2, 0, 0, 0}, {0, 1}},
+    {"turned-away", FPB_CONFIG, FPB_HOST, 0x0108, {0, 4, 0, 255, 0, 0, 0, 0}, UNUSED},
+    {"turned-away", FPB_ID, FPB_HOST, 0x0108, {0, 2, 2, 255, 2, 0, 0, 0}, {0, 1}},
+    {"fifteen-before-eighteen", FPB_CONFIG, FPB_HOST, 0x0300, {0, 4, 1, 255, 2, 0, 0, 0}, {0, 1}},
+    {"fifteen-before-eighteen", FPB_CONFIG, FPB_HOST, 0x0108, {0, 4, 0, 255, 0, 0, 0, 0}, UNUSED},
     {"short", FPB_ID, FPB_HOST, 0, {1, 0, 255, 255, 0, 0, 0, 0}, UNUSED},
     {"edition-2", FPB_ID, FPB_HOST, 0, {2, 0, 255, 255, 0, 0, 0, 0}, UNUSED},
     {"no-port", FPB_ID, FPB_HOST, 0, {3, 0, 255, 255, 0, 0, 0, 0}, UNUSED},
@@ -151,14 +177,22 @@ static const struct walk_case walks[] = {
     {"switch", FPB_ID, 511, 0x0300, {16, 0, 255, 255, 0, 0, 0, 0}, UNUSED},
 };
 
-/* A byte in the record of a port: the low bytes of Command, Device Control 2 and Bridge Control. */
+/* A byte in the record of a port: the low bytes of its own ID and registers, and Subordinate; one more is the next byte. */
+#define OWN_ID(port) (16 + 56 * (port) + 2)
 #define COMMAND(port) (16 + 56 * (port) + 4)
+#define SUBORDINATE(port) (16 + 56 * (port) + 7)
 #define DEVICE_CONTROL_2(port) (16 + 56 * (port) + 24)
 #define BRIDGE_CONTROL(port) (16 + 56 * (port) + 26)
+#define CAPABILITIES(port) (16 + 56 * (port) + 28)
+#define RID_CONTROL_1(port) (16 + 56 * (port) + 32)
+#define RID_CONTROL_2(port) (16 + 56 * (port) + 36)
 #define MEMORY_SPACE 2
 #define ARI (1 << 5)
 #define VGA (1 << 3)
 #define VGA_16_BIT (1 << 4)
+#define RID_ON 1
+#define RID_SUPPORTED 1
+#define SEC_DEV(n) (RID_SUPPORTED | (n) << 3)
 
 /* VGA Enable with and without Memory Space Enable, at ports with a display, beside and above them; in the last, nobody below the
  * switch has the video range by it, and port 2 has the first MiB. */
@@ -183,8 +217,49 @@ static const struct changed_check changed_checks[] = {
     {COMMAND(3), 0, {"display-over-the-first-mib", {14, 0, 2, 255, 0, 0, 0, 0}, 0}},
 };
 
+/* RID decoding, ARI and the Secondary range changed at the port that takes configuration requests, at its ends and one unit on; the
+ * numbers that come before 18. Of the range of port 1 of taken-id, the start is 0208h and the last ID 0307h. */
+static const struct changed_check changed_ranges[] = {
+    {RID_CONTROL_1(1), 0, {"taken-id", {0, 0, 255, 255, 0, 0, 0, 0}, 0}},
+    {RID_CONTROL_1(1), RID_ON, {"range-off", {18, 0, 2, 255, 0, 0, 0, 0}, 0x0300}},
+    {RID_CONTROL_2(1), 0x00, {"taken-id", {0, 0, 255, 255, 0, 0, 0, 0}, 0}},
+    {RID_CONTROL_2(1), 0x07, {"taken-id", {0, 0, 255, 255, 0, 0, 0, 0}, 0}},
+    {RID_CONTROL_2(1), 0x0F, {"taken-id", {18, 0, 2, 255, 0, 0, 0, 0}, 0x0300}},
+    {RID_CONTROL_2(1) + 1, 0x03, {"taken-id", {18, 0, 2, 255, 0, 0, 0, 0}, 0x0308}},
+    {RID_CONTROL_2(1) + 1, 0x05, {"taken-id", {18, 0, 2, 255, 0, 0, 0, 0}, 0x0508}},
+    {RID_CONTROL_2(1) + 1, 0x06, {"taken-id", {18, 0, 5, 255, 0, 0, 0, 0}, 0x0608}},
+    {RID_CONTROL_2(1) + 1, 0x07, {"taken-id", {0, 0, 255, 255, 0, 0, 0, 0}, 0}},
+    {CAPABILITIES(1), SEC_DEV(30), {"taken-id", {0, 0, 255, 255, 0, 0, 0, 0}, 0}},
+    {DEVICE_CONTROL_2(1), ARI, {"taken-id", {18, 0, 2, 255, 0, 0, 0, 0}, 0x0300}},
+    {OWN_ID(2), 0x10, {"taken-id", {11, 0, 2, 5, 0, 0, 0, 0}, 0x0210}},
+    {SUBORDINATE(1), 5, {"taken-id", {13, 0, 5, 255, 0, 0, 0, 0}, 0x0600}},
+    {BRIDGE_CONTROL(2), VGA, {"taken-id", {14, 0, 2, 255, 0, 0, 0, 0}, 0xA0000}},
+    {RID_CONTROL_1(3), 0, {"taken-bus", {0, 0, 255, 255, 0, 0, 0, 0}, 0}},
+    {RID_CONTROL_1(2), 0, {"taken-unit", {0, 0, 255, 255, 0, 0, 0, 0}, 0}},
+    {RID_CONTROL_2(2), 0x00, {"taken-unit", {18, 0, 3, 255, 0, 0, 0, 0}, 0x0300}},
+    {RID_CONTROL_2(2) + 1, 0x02, {"taken-unit", {0, 0, 255, 255, 0, 0, 0, 0}, 0}},
+    {DEVICE_CONTROL_2(2), ARI, {"taken-unit", {18, 0, 3, 255, 0, 0, 0, 0}, 0x0300}},
+    {DEVICE_CONTROL_2(2), (uint8_t)~ARI, {"taken-ari-bus", {18, 0, 3, 255, 0, 0, 0, 0}, 0x0308}},
+    {RID_CONTROL_2(2) + 1, 0x04, {"taken-ari-bus", {18, 0, 3, 255, 0, 0, 0, 0}, 0x0400}},
+    {RID_CONTROL_2(2) + 1, 0x02, {"taken-ari-bus", {0, 0, 255, 255, 0, 0, 0, 0}, 0}},
+    {RID_CONTROL_1(1), 0, {"taken-twice", {18, 0, 3, 255, 0, 0, 0, 0}, 0x0308}},
+    {RID_CONTROL_1(3), 0, {"taken-twice", {18, 0, 2, 255, 0, 0, 0, 0}, 0x0308}},
+    {RID_CONTROL_2(0) + 1, 0x03, {"taken-twice", {18, 0, 1, 255, 0, 0, 0, 0}, 0x0300}},
+    {DEVICE_CONTROL_2(0), ARI, {"turned-away", {18, 0, 1, 255, 0, 0, 0, 0}, 0x0108}},
+    {RID_CONTROL_1(1), 0, {"turned-away", {13, 0, 2, 255, 0, 0, 0, 0}, 0x0108}},
+    {OWN_ID(2) + 1, 0x02, {"fifteen-before-eighteen", {18, 0, 1, 255, 0, 0, 0, 0}, 0x0108}},
+    {RID_CONTROL_1(1), 0, {"fifteen-before-eighteen", {15, 0, 2, 255, 0, 0, 0, 0}, 0}},
+    {RID_CONTROL_2(0), 0x08, {"flat-switch", {15, 0, 1, 255, 0, 0, 0, 0}, 0}},
+    {CAPABILITIES(1), SEC_DEV(0), {"flat-switch", {15, 0, 3, 255, 0, 0, 0, 0}, 0}},
+    {CAPABILITIES(1), SEC_DEV(2), {"flat-switch", {18, 0, 2, 255, 0, 0, 0, 0}, 0x0118}},
+    {CAPABILITIES(4), SEC_DEV(1), {"flat-switch", {18, 0, 5, 255, 0, 0, 0, 0}, 0x0308}},
+    {DEVICE_CONTROL_2(0), ARI, {"flat-switch", {18, 0, 1, 255, 0, 0, 0, 0}, 0x0108}},
+    {DEVICE_CONTROL_2(3), 0, {"flat-switch", {0, 0, 255, 255, 0, 0, 0, 0}, 0}},
+};
+
 /* With ARI set at port 2 of the switch, a configuration request for 0308h ends at the device's Function 8. With VGA Enable or
- * Memory Space Enable changed at a port, a packet to the video range ends elsewhere. */
+ * Memory Space Enable changed at a port, a packet to the video range ends elsewhere. With RID decoding or the Secondary range
+ * changed, the host finds port 3 or loses it; with ARI the root port lets a request through, to what is right below it. */
 static const struct changed_walk changed_walks[] = {
     {DEVICE_CONTROL_2(2), ARI, {"switch", FPB_CONFIG, FPB_HOST, 0x0308, {0, 1, 2, 255, 3, 8, 0, 0}, {0, 1, 2}}},
     {BRIDGE_CONTROL(0), 0, {"display-card", FPB_ADDRESS, FPB_HOST, 0xA0000, {0, 3, 255, 255, 0, 0, 0, 0}, UNUSED}},
@@ -193,17 +268,25 @@ static const struct changed_walk changed_walks[] = {
     {BRIDGE_CONTROL(2), VGA_16_BIT, {"display-card", FPB_ADDRESS, 3, 0xA0000, {0, 4, 1, 255, 1, 0, 0, 0}, {3}}},
     {COMMAND(3), 0, {"two-displays", FPB_ADDRESS, FPB_HOST, 0xA0000, {0, 1, 2, 255, 3, 0, 0, 0}, {0, 1, 2}}},
     {COMMAND(1), MEMORY_SPACE, {"every-decoder", FPB_ADDRESS, FPB_HOST, 0xA0000, {0, 5, 0, 1, 0, 0, 0, 0}, UNUSED}},
+    {RID_CONTROL_1(1), 0, {"taken-id", FPB_CONFIG, FPB_HOST, 0x0300, {0, 2, 3, 255, 3, 0, 0, 0}, {0, 1, 2}}},
+    {RID_CONTROL_1(1), RID_ON, {"range-off", FPB_CONFIG, FPB_HOST, 0x0300, {0, 4, 1, 255, 2, 0, 0, 0}, {0, 1}}},
+    {CAPABILITIES(1), SEC_DEV(30), {"taken-id", FPB_CONFIG, FPB_HOST, 0x0300, {0, 2, 3, 255, 3, 0, 0, 0}, {0, 1, 2}}},
+    {DEVICE_CONTROL_2(0), ARI, {"turned-away", FPB_CONFIG, FPB_HOST, 0x0108, {0, 4, 0, 255, 1, 0, 0, 0}, {0}}},
 };
 
-/* New vectors for these ports of shared-granule (ports 2 and 3), last-id (port 1), every-decoder (ports 3, 4 and 5) and
- * display-card (port 3, by 16 MiB from 0 on). Of shared-granule, port 2 has entries 1 and 5 set and port 3 entries 5 and 9. */
+/* New vectors for these ports of shared-granule (ports 2 and 3), last-id (port 1), every-decoder (ports 3, 4 and 5), display-card
+ * (port 3, by 16 MiB from 0 on), taken-id (port 1), taken-bus (port 3) and flat-switch (port 4), the last three by units from 0200h
+ * on. Of shared-granule, port 2 has entries 1 and 5 set and port 3 entries 5 and 9. */
 #define NO_ROW {0, 0}
 #define PORT_3(...) {48, 1, 48, {{3, 16}, NO_ROW, NO_ROW}, {__VA_ARGS__}}
 #define PORT_3_APART PORT_3(ENTRY(16, 6), ENTRY(16, 9), 0, 0)
 #define PORT_1(...) {48, 1, 48, {{1, 16}, NO_ROW, NO_ROW}, {__VA_ARGS__}}
+#define PORT_4(...) {48, 1, 48, {{4, 16}, NO_ROW, NO_ROW}, {__VA_ARGS__}}
 #define PORT_5(...) {112, 1, 112, {{5, 16}, NO_ROW, NO_ROW}, {__VA_ARGS__}}
 #define PORTS_3_4_5(...) {224, 3, 224, {{3, 32}, {4, 64}, {5, 128}}, {__VA_ARGS__}}
 #define NO_ENTRY {0, 0, 0, 0}
+/* What port 4 of flat-switch has and needs for port 5, 0300h to 030Fh, and more. */
+#define PORT_4_AND(entry) PORT_4(ENTRY(16, 32), ENTRY(16, 33), entry, 0)
 /* With this byte port 3 has entry 6 set in place of entry 5, and shared-granule is sound. */
 #define APART 272, 0x40
 
@@ -229,6 +312,18 @@ static const struct trial_check trial_checks[] = {
     {{0, 0, PORT_3(ENTRY(16, 1), ENTRY(16, 0xE0), 0, 0)}, {"display-card", {12, 0, 2, 3, 0, 0, 0, 0}, 0xE0000000}},
     {{BRIDGE_CONTROL(2), 0, PORT_3(ENTRY(16, 0), 0, 0, 0)}, {"display-card", {14, 0, 3, 255, 0, 0, 0, 0}, 0}},
     {{BRIDGE_CONTROL(3), VGA, PORT_3(0, 0, 0, 0)}, {"display-card", {12, 0, 2, 3, 0, 0, 0, 0}, 0xA0000}},
+    {{0, 0, PORT_3(ENTRY(16, 64), 0, 0, 0)}, {"taken-bus", {0, 0, 255, 255, 0, 0, 0, 0}, 0}},
+    {{0, 0, PORT_3(ENTRY(16, 64), ENTRY(16, 31), 0, 0)}, {"taken-bus", {18, 0, 3, 255, 0, 0, 0, 0}, 0x02F8}},
+    {{0, 0, PORT_3(ENTRY(16, 8), ENTRY(16, 2), 0, 0)}, {"taken-bus", {18, 0, 3, 255, 0, 0, 0, 0}, 0x0210}},
+    {{0, 0, PORT_3(ENTRY(16, 8), ENTRY(16, 32), 0, 0)}, {"taken-bus", {11, 0, 2, 3, 0, 0, 0, 0}, 0x0300}},
+    {{0, 0, PORT_3(ENTRY(16, 8), ENTRY(16, 96), 0, 0)}, {"taken-bus", {13, 0, 3, 255, 0, 0, 0, 0}, 0x0500}},
+    {{0, 0, PORT_4_AND(0)}, {"flat-switch", {0, 0, 255, 255, 0, 0, 0, 0}, 0}},
+    {{0, 0, PORT_4_AND(ENTRY(16, 2))}, {"flat-switch", {18, 0, 4, 255, 0, 0, 0, 0}, 0x0210}},
+    {{0, 0, PORT_4_AND(ENTRY(16, 31))}, {"flat-switch", {18, 0, 4, 255, 0, 0, 0, 0}, 0x02F8}},
+    {{0, 0, PORT_4_AND(ENTRY(16, 34))}, {"flat-switch", {13, 0, 4, 255, 0, 0, 0, 0}, 0x0310}},
+    {{DEVICE_CONTROL_2(3), 0, PORT_4_AND(ENTRY(16, 2))}, {"flat-switch", {0, 0, 255, 255, 0, 0, 0, 0}, 0}},
+    {{0, 0, PORT_1(ENTRY(16, 0), 0, 0, 0)}, {"taken-id", {18, 0, 2, 255, 0, 0, 0, 0}, 0x0300}},
+    {{RID_CONTROL_1(1), 0, PORT_1(0, 0, 0, 0)}, {"taken-id", {0, 0, 255, 255, 0, 0, 0, 0}, 0}},
 };
 
 static const struct trial_walk trial_walks[] = {
@@ -249,6 +344,13 @@ static const struct trial_walk trial_walks[] = {
     {{0, 0, PORT_3(ENTRY(16, 0), 0, 0, 0)}, {"display-card", FPB_ADDRESS, FPB_HOST, 0xBFFFF, {0, 5, 2, 3, 2, 0, 0, 0}, {0, 1}}},
     {{0, 0, PORT_3(ENTRY(16, 0), 0, 0, 0)}, {"display-card", FPB_ADDRESS, FPB_HOST, 0xC0000, {0, 3, 255, 255, 0, 0, 0, 0}, UNUSED}},
     {{0, 0, PORT_3(ENTRY(16, 0), 0, 0, 0)}, {"display-card", FPB_ADDRESS, 2, 0xC0000, {0, 1, 3, 255, 2, 0, 0, 0}, {2, 3}}},
+    {{0, 0, PORT_3(ENTRY(16, 64), 0, 0, 0)},
+     {"taken-bus", FPB_ID, FPB_HOST, 0x0240, {0, 4, 1, 255, 2, 0, 0, 0}, {0, 1}}},
+    {{0, 0, PORT_4_AND(ENTRY(16, 2))},
+     {"flat-switch", FPB_CONFIG, FPB_HOST, 0x0210, {0, 4, 3, 255, 3, 0, 0, 0}, {0, 1, 3}}},
+    {{0, 0, PORT_4_AND(ENTRY(16, 2))},
+     {"flat-switch", FPB_ID, FPB_HOST, 0x0210, {0, 4, 4, 255, 4, 0, 0, 0}, {0, 1, 3, 4}}},
+    {{0, 0, PORT_1(0, 0, 0, 0)}, {"taken-id", FPB_CONFIG, FPB_HOST, 0x0300, {0, 4, 1, 255, 2, 0, 0, 0}, {0, 1}}},
     {{0, 0, PORT_3_APART}, {"shared-granule", 3, FPB_HOST, 0x0300, {16, 0, 255, 255, 0, 0, 0, 0}, UNUSED}},
     {{0, 0, PORT_3_APART}, {"shared-granule", FPB_ID, FPB_HOST, 0x10000, {16, 0, 255, 255, 0, 0, 0, 0}, UNUSED}},
     {{0, 0, PORT_3_APART}, {"shared-granule", FPB_ID, 1, 0x0300, {16, 0, 255, 255, 0, 0, 0, 0}, UNUSED}},
@@ -399,12 +501,50 @@ static void compare(const char *sample, size_t length, uint32_t number, const ui
     expect(memcmp(patch_room, patch_before, sizeof patch_room) == 0, "the patch unchanged", sample, length);
 }
 
+/* Whether a number gives a least target. */
+static int has_target(uint8_t number)
+{
+    return (number >= FPB_SHARED_ID && number <= FPB_STRAY_ADDRESS) || number == FPB_TAKEN_ID;
+}
+
+/* The ports above a port, from the root port down; how many. */
+static size_t ports_above(size_t port, uint8_t *above)
+{
+    uint8_t parent = picture[16 + 56 * port + 1];
+    size_t count = 0;
+    if (parent != FPB_NO_PORT) {
+        count = ports_above(parent, above);
+        above[count++] = parent;
+    }
+    return count;
+}
+
+/* In a picture that gets 0, the host's configuration request for the own ID of a port crosses the ports above it and ends at it. */
+static void try_found(const char *sample, int on_trial)
+{
+    struct walk_case walk = {sample, FPB_CONFIG, FPB_HOST, 0, UNUSED, UNUSED};
+    uint8_t answer[FPB_ANSWER_LENGTH], wanted[FPB_ANSWER_LENGTH];
+    size_t port;
+    for (port = 0; port < picture[2]; port++) {
+        const uint8_t *own = picture + OWN_ID(port);
+        memset(wanted, FPB_NO_PORT, sizeof wanted);
+        memset(wanted, 0, 8);
+        wanted[FPB_AT_END] = FPB_END_FUNCTION;
+        wanted[FPB_AT_PORT] = (uint8_t)port;
+        wanted[FPB_AT_SECOND_PORT] = FPB_NO_PORT;
+        wanted[FPB_AT_CROSSINGS] = (uint8_t)ports_above(port, wanted + FPB_AT_PATH);
+        walk.target = own[0] + 256u * own[1];
+        expect(ask_walk(on_trial, answer, sizeof answer, &walk) == FPB_CLEAR && memcmp(answer, wanted, sizeof wanted) == 0,
+               "a port found", sample, sizeof answer);
+    }
+}
+
 static void try_check(const struct check_case *c, int on_trial)
 {
     uint8_t answer[ROOM], wanted[ROOM], places[FPB_PLACES];
     size_t i, k;
     memset(places, FPB_NO_PORT, sizeof places);
-    for (i = 0; i < 8 && c->head[0] >= FPB_SHARED_ID && c->head[0] <= FPB_STRAY_ADDRESS; i++) {
+    for (i = 0; i < 8 && has_target(c->head[FPB_AT_NUMBER]); i++) {
         places[i] = (uint8_t)(c->least_target >> 8 * i & 255);
     }
     for (k = 0; k < COUNT(lengths); k++) {
@@ -414,6 +554,9 @@ static void try_check(const struct check_case *c, int on_trial)
     }
     if (c->least_target != 0) {
         expect(fpb_least_target(answer) == c->least_target, "the least target read back", c->sample, ROOM);
+    }
+    if (c->head[FPB_AT_NUMBER] == FPB_CLEAR) {
+        try_found(c->sample, on_trial);
     }
 }
 
@@ -528,12 +671,12 @@ static void try_refused_patches(const char *folder)
 }
 
 /* Samples in which a byte is changed. */
-static void try_changed_checks(const char *folder)
+static void try_changed_checks(const char *folder, const struct changed_check *cases, size_t count)
 {
     size_t i;
-    for (i = 0; i < COUNT(changed_checks); i++) {
-        load_changed(folder, changed_checks[i].check.sample, changed_checks[i].at, changed_checks[i].byte);
-        try_check_alone(&changed_checks[i].check);
+    for (i = 0; i < count; i++) {
+        load_changed(folder, cases[i].check.sample, cases[i].at, cases[i].byte);
+        try_check_alone(&cases[i].check);
     }
 }
 
@@ -544,6 +687,28 @@ static void try_changed_walks(const char *folder)
         load_changed(folder, changed_walks[i].walk.sample, changed_walks[i].at, changed_walks[i].byte);
         try_walk_alone(&changed_walks[i].walk);
     }
+}
+
+/* All 40 bytes of an answer with 18, of the check and on trial: port 2 of taken-id at 0300h, and port 4 of flat-switch with an
+ * entry at 0210h put in. */
+#define EIGHT_PLACES 255, 255, 255, 255, 255, 255, 255, 255
+
+static void try_taken(const char *folder)
+{
+    static const struct patch_case entry = PORT_4_AND(ENTRY(16, 2));
+    static const uint8_t alone[FPB_ANSWER_LENGTH] = {18, 0, 2, 255, 0, 0, 0, 0, 0x00, 0x03, 0, 0, 0, 0, 0, 0,
+                                                     EIGHT_PLACES, EIGHT_PLACES, EIGHT_PLACES};
+    static const uint8_t tried[FPB_ANSWER_LENGTH] = {18, 0, 4, 255, 0, 0, 0, 0, 0x10, 0x02, 0, 0, 0, 0, 0, 0,
+                                                     EIGHT_PLACES, EIGHT_PLACES, EIGHT_PLACES};
+    uint8_t answer[FPB_ANSWER_LENGTH];
+    load(folder, "taken-id");
+    expect(fpb_check(picture, picture_len, answer, sizeof answer) == 18 && memcmp(answer, alone, sizeof answer) == 0,
+           "all bytes", "taken-id", sizeof answer);
+    load(folder, "flat-switch");
+    lay_patch(&entry, 0, KEPT);
+    expect(fpb_trial_check(picture, picture_len, patch, patch_len, answer, sizeof answer) == 18 &&
+               memcmp(answer, tried, sizeof answer) == 0,
+           "all bytes on trial", "flat-switch", sizeof answer);
 }
 
 /* Lays a patch whose ports are those of a set, bit p for port p; each has `bytes` of vectors, with no entry set. */
@@ -698,10 +863,10 @@ static void try_nothing_on_trial(void)
     expect(fpb_trial_walk(NULL, 0, NULL, 0, NULL, 0, 9, 9, 9) == FPB_BUFFER, "trial walk", "nothing", 0);
 }
 
-/* 18 to 29 are no numbers. */
+/* 19 to 29 are no numbers. */
 static int is_number(uint32_t number)
 {
-    return number <= FPB_BUFFER || (number >= FPB_PATCH_HEADER && number <= FPB_PATCH_VECTORS);
+    return number <= FPB_TAKEN_ID || (number >= FPB_PATCH_HEADER && number <= FPB_PATCH_VECTORS);
 }
 
 /* The file has a line for each number, in order, and no other. */
@@ -728,7 +893,7 @@ static void try_texts(const char *name)
 
 static void try_unknown_numbers(void)
 {
-    static const uint32_t unknown[] = {FPB_BUFFER + 1, FPB_PATCH_HEADER - 1, FPB_PATCH_VECTORS + 1, 255, 4294967295U};
+    static const uint32_t unknown[] = {FPB_TAKEN_ID + 1, FPB_PATCH_HEADER - 1, FPB_PATCH_VECTORS + 1, 255, 4294967295U};
     size_t i;
     for (i = 0; i < COUNT(unknown); i++) {
         if (!counted(strcmp(fpb_number_text(unknown[i]), "not a number of this judge") == 0)) {
@@ -761,8 +926,10 @@ int main(int argc, char **argv)
         load(argv[1], walks[i].sample);
         try_walk_alone(&walks[i]);
     }
-    try_changed_checks(argv[1]);
+    try_changed_checks(argv[1], changed_checks, COUNT(changed_checks));
+    try_changed_checks(argv[1], changed_ranges, COUNT(changed_ranges));
     try_changed_walks(argv[1]);
+    try_taken(argv[1]);
     try_trial_checks(argv[1]);
     try_trial_walks(argv[1]);
     try_refused_patches(argv[1]);

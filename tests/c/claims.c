@@ -512,6 +512,27 @@ static void try_unsound(const char *folder)
     try_all(CLAIM, displays, COUNT(displays));
 }
 
+/* What the port above makes of an ID that the check gives with 18: port 1 takes 0300h, port 0 turns 0108h away. */
+static void try_taken(const char *folder)
+{
+    static const struct answered taken[] = {
+        {{0, 0, 0x0300}, FPB_TYPE_1},
+        {{1, 0, 0x0300}, FPB_TYPE_0},
+        {{1, 0, 0x0307}, FPB_TYPE_0},
+        {{1, 0, 0x0308}, FPB_TYPE_1},
+        {{2, 0, 0x0300}, FPB_TYPE_0},
+    };
+    static const struct answered turned_away[] = {
+        {{0, 0, 0x0100}, FPB_TYPE_0},
+        {{0, 0, 0x0108}, FPB_UNSUPPORTED_REQUEST},
+        {{1, 0, 0x0108}, FPB_TYPE_0},
+    };
+    load(folder, "taken-id");
+    try_all(CONVERT, taken, COUNT(taken));
+    load(folder, "turned-away");
+    try_all(CONVERT, turned_away, COUNT(turned_away));
+}
+
 /* No picture at all, and zeros: as many as a picture may have, and one more. */
 static void try_nothing(void)
 {
@@ -544,6 +565,7 @@ int main(int argc, char **argv)
     try_64_ports();
     try_unreadable(argv[1]);
     try_unsound(argv[1]);
+    try_taken(argv[1]);
     try_nothing();
     return told();
 }

@@ -23,7 +23,7 @@ fn say_reading(number: u8) {
     }
 }
 
-// Numbers 0 to 15, which the check gives, and 30 to 32, which it also gives where there is a patch.
+// Numbers 0 to 15 and 18, which the check gives, and 30 to 32, which it also gives where there is a patch.
 pub fn say_fixed(number: u8) {
     match number {
         0 => say(b"Nothing was found wrong"),
@@ -32,6 +32,9 @@ pub fn say_fixed(number: u8) {
         13 => say(b"A port holds an ID that its parent does not claim"),
         14 => say(b"A port holds an address that its parent does not claim"),
         15 => say(b"A port's own ID is not both claimed and made Type 0 by its parent"),
+        18 => say(
+            b"A port claims an ID that its parent makes Type 0 or refuses and does not pass on as Type 1",
+        ),
         30 => say(
             b"The patch is too short for its header or its list of ports, or the total length in its header is not its length",
         ),

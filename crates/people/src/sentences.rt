@@ -49,7 +49,7 @@ fn say_count(count: u16) {
 fn say_of_picture(s: &[u8], number: u8) {
     match number {
         0 => say(
-            b": no ID or address has two holders at one place, and no port holds what its parent does not claim",
+            b": no ID or address has two holders at one place, no port holds what its parent does not claim, and the host's configuration requests find every port",
         ),
         1 => say_length(s.len()),
         2 => {
@@ -80,17 +80,18 @@ fn say_misplaced(s: &[u8], p: PortNo) {
     say_number(port_at(s, p).vectors_at as u64);
 }
 
-// What the parent makes of the own ID of a port that it loses.
-fn say_lost<'a>(s: &'a [u8], patch: &'a [u8], p: PortNo) {
+// What the parent of port p makes of a target that the port holds; no port makes anything of an address.
+fn say_at_parent<'a>(s: &'a [u8], patch: &'a [u8], p: PortNo, t: Target) {
     let parent = parent_at(s, p);
     say(b", and ");
     say_number_of(parent);
-    match claims::conversion(s, patch, parent, Target::Id(own_id_at(s, p))) {
+    match claims::conversion(s, patch, parent, t) {
+        Conversion::NotClaimed => say(b" does not claim it"),
+        Conversion::Type0 => say(b" makes configuration requests for it Type 0"),
         Conversion::Type1 => say(b" passes configuration requests for it on as Type 1"),
         Conversion::Unsupported => say(
             b" answers configuration requests for it with Unsupported Request",
         ),
-        _ => say(b" does not claim it"),
     }
 }
 
@@ -108,19 +109,21 @@ fn say_of_port<'a>(s: &'a [u8], patch: &'a [u8], number: u8, p: PortNo) {
     match number {
         8 => say_wrong_settings(s, p),
         9 => say_wrong_starts(s, p),
-        15 => say_lost(s, patch, p),
+        15 => say_at_parent(s, patch, p, Target::Id(own_id_at(s, p))),
         _ => {}
     }
 }
 
-// Numbers 13 and 14.
-fn say_stray(s: &[u8], t: Target, h: Hold) {
+// Numbers 13, 14 and 18: a port that holds a target, or claims it, and what its parent makes of it.
+fn say_of_holder<'a>(s: &'a [u8], patch: &'a [u8], number: u8, t: Target, h: Hold) {
     say_target(t);
-    say(b" is held by ");
+    if number == 18 {
+        say(b" is claimed by ");
+    } else {
+        say(b" is held by ");
+    }
     say_holder(s, h);
-    say(b", and ");
-    say_number_of(parent_at(s, h.port));
-    say(b" does not claim it");
+    say_at_parent(s, patch, h.port, t);
 }
 
 // Numbers 11 and 12; a port that claims its own ID is a pair with itself.
@@ -149,9 +152,9 @@ fn say_unnamed(s: &[u8], patch: &[u8], number: u8) {
 }
 
 // The particulars of a number that names its ports by their hold on a target.
-fn say_of_target(s: &[u8], t: Target, ports: Named) {
+fn say_of_target<'a>(s: &'a [u8], patch: &'a [u8], number: u8, t: Target, ports: Named) {
     match ports {
-        Named::Holder(h) => say_stray(s, t, h),
+        Named::Holder(h) => say_of_holder(s, patch, number, t, h),
         Named::Pair(h, k) => say_pair(s, t, h, k),
         _ => {}
     }
@@ -161,7 +164,7 @@ fn say_of_target(s: &[u8], t: Target, ports: Named) {
 fn say_particulars<'a>(s: &'a [u8], patch: &'a [u8], number: u8, shown: Shown, ports: Named) {
     if let Shown::Least(t) = shown {
         say(b": ");
-        say_of_target(s, t, ports);
+        say_of_target(s, patch, number, t, ports);
         return;
     }
     if let Named::Port(p) = ports {
