@@ -144,6 +144,38 @@ bug check.rs "the second port's decoders those of the first" 'picture.holder(sec
 bug check.rs "the first port's decoders those of the second" 'picture.holder(first, seen.target)' 'crate::picture::Named { port: first as u8, ..picture.holder(second, seen.target) }'
 bug check.rs "the decoders of the parent in 13 and 14" 'vec![picture.holder(port, seen.target)]' 'vec![crate::picture::Named { port: port as u8, ..picture.holder(picture.ports[port].parent.unwrap(), seen.target) }]'
 bug check.rs "the line of 15 says why, too" 'Refusal::at_port(15, port)' 'Refusal { ports: vec![picture.holder(port, Target::Id(what.own_id))], ..Refusal::bare(15) }'
+bug claims.rs "18 without the parent's Unsupported Request" 'Conversion::Type0 | Conversion::Unsupported' 'Conversion::Type0'
+bug claims.rs "18 without the parent's Type 0" 'Conversion::Type0 | Conversion::Unsupported' 'Conversion::Unsupported'
+bug check.rs "18 of what a port holds" 'let stopped = seen.claimers' 'let stopped = seen.holders'
+bug check.rs "18 before 15" $'refuse_unreached(picture)?;\n    refuse_stopped(picture, &ids)' $'refuse_stopped(picture, &ids)?;\n    refuse_unreached(picture)'
+bug check.rs "18 before 14" 'refuse_escape(14,' $'refuse_stopped(picture, &ids)?;\n    refuse_escape(14,'
+bug check.rs "18 before 13" 'refuse_escape(13,' $'refuse_stopped(picture, &ids)?;\n    refuse_escape(13,'
+bug check.rs "18 before 11" 'refuse_overlap(11,' $'refuse_stopped(picture, &ids)?;\n    refuse_overlap(11,'
+bug check.rs "18 with the greatest ID" '(0..=0xFFFF).zip(ids) {' '(0..=0xFFFFu16).zip(ids).rev() {'
+bug check.rs "18 with the highest port" 'seen.claimers.iter().find' 'seen.claimers.iter().rev().find'
+bug check.rs "18 of root ports too, by what they make of it themselves" $'stops(id),\n            None => false' $'stops(id),\n            None => picture.ports[port].stops(id)'
+bug check.rs "18 by what the port itself makes of it" 'picture.ports[parent].stops(id)' 'picture.ports[port].stops(id)'
+bug check.rs "18 not looked for below root ports" 'picture.ports[parent].stops(id)' 'picture.ports[parent].parent.is_some() && picture.ports[parent].stops(id)'
+bug check.rs "18 not looked for below upstream ports" 'picture.ports[parent].stops(id)' 'picture.ports[parent].kind != crate::picture::Kind::Upstream && picture.ports[parent].stops(id)'
+bug check.rs "18 not looked for below downstream ports" 'picture.ports[parent].stops(id)' 'picture.ports[parent].kind != crate::picture::Kind::Downstream && picture.ports[parent].stops(id)'
+bug check.rs "18 of claims by the bus pair only" 'picture.ports[parent].stops(id)' 'picture.ports[port].bus_pair_claims(id) && picture.ports[parent].stops(id)'
+bug check.rs "18 of claims by the RID vector only" 'picture.ports[parent].stops(id)' 'picture.ports[port].decoders(seen.target).rid && picture.ports[parent].stops(id)'
+bug check.rs "18 of what the parent's bus pair claims only" 'picture.ports[parent].stops(id)' 'picture.ports[parent].bus_pair_claims(id) && picture.ports[parent].stops(id)'
+bug check.rs "18 of what the parent's RID vector claims only" 'picture.ports[parent].stops(id)' 'picture.ports[parent].decoders(seen.target).rid && picture.ports[parent].stops(id)'
+bug check.rs "18 of the Secondary range with RID decoding off" 'picture.ports[parent].stops(id)' '{ let above = &picture.ports[parent]; let none = Vector { start: 0, granularity: 8, size: 0, bytes: Vec::new() }; Port { rid: above.rid.clone().or(Some(none)), ..above.clone() }.stops(id) }'
+bug check.rs "18 of the Secondary range one unit too short" 'picture.ports[parent].stops(id)' '{ let above = &picture.ports[parent]; Port { num_sec_dev: above.num_sec_dev.saturating_sub(1), ..above.clone() }.stops(id) }'
+bug check.rs "18 of the Secondary range one unit too long" 'picture.ports[parent].stops(id)' '{ let above = &picture.ports[parent]; Port { num_sec_dev: above.num_sec_dev + 1, ..above.clone() }.stops(id) }'
+bug check.rs "18 of the Secondary range one unit too late" 'picture.ports[parent].stops(id)' '{ let above = &picture.ports[parent]; Port { secondary_start: above.secondary_start + 1, ..above.clone() }.stops(id) }'
+bug check.rs "18 of the Secondary range come round to unit 0" 'picture.ports[parent].stops(id)' '{ let above = &picture.ports[parent]; let round = above.kind == crate::picture::Kind::Upstream && above.rid.is_some() && id / 8 + 8192 <= above.secondary_start + above.num_sec_dev; round || above.stops(id) }'
+bug check.rs "18 of one unit with ARI" 'picture.ports[parent].stops(id)' 'Port { ari: false, ..picture.ports[parent].clone() }.stops(id)'
+bug check.rs "18 of a bus without ARI" 'picture.ports[parent].stops(id)' 'Port { ari: true, ..picture.ports[parent].clone() }.stops(id)'
+bug check.rs "18 of Num Sec Dev at any port" 'picture.ports[parent].stops(id)' 'Port { kind: crate::picture::Kind::Upstream, ..picture.ports[parent].clone() }.stops(id)'
+bug check.rs "18 of the bus Secondary without a pair that claims" 'picture.ports[parent].stops(id)' '(picture.ports[parent].stops(id) || (id >> 8) as u8 == picture.ports[parent].secondary)'
+bug check.rs "18 of every bus of the pair" 'picture.ports[parent].stops(id)' '(picture.ports[parent].stops(id) || picture.ports[parent].bus_pair_claims(id))'
+bug check.rs "18 of device 0 of the bus Secondary only" 'picture.ports[parent].stops(id)' '(picture.ports[parent].stops(id) && ((id >> 8) as u8 != picture.ports[parent].secondary || id & 0xF8 == 0))'
+bug check.rs "18 names the parent" $'= stopped {\n            let ports = vec![picture.holder(port,' $'= stopped {\n            let ports = vec![picture.holder(picture.ports[port].parent.unwrap(),'
+bug check.rs "the decoders of the parent in 18" $'= stopped {\n            let ports = vec![picture.holder(port, seen.target)]' $'= stopped {\n            let ports = vec![crate::picture::Named { port: port as u8, ..picture.holder(picture.ports[port].parent.unwrap(), seen.target) }]'
+bug check.rs "18 names no ID" 'number: 18, target: Some(seen.target)' 'number: 18, target: None'
 bug judge.rs "low and high change places in the line" '" low", " high"' '" high", " low"'
 bug judge.rs "own left out of the line" '[" own",' '["",'
 bug judge.rs "the words of a line in another order" 'holding.those_of(WORDS).concat()' 'holding.those_of(WORDS).into_iter().rev().collect::<String>()'
@@ -201,6 +233,13 @@ text_bug explain.rs "memory and prefetchable window exchanged" $'" through its m
 text_bug explain.rs "the words for the video range left out" '" through its video range"' '""'
 text_bug explain.rs "the words for the MEM High vector and the video range exchanged" $'" through its MEM High vector",\n    " through its video range"' '" through its video range", " through its MEM High vector"'
 text_bug explain.rs "a comma between two ways" '.join(" and")' '.join(",")'
+text_bug explain.rs "the sentence of 0 without configuration requests" $', no port holds what its parent does not claim, and \\\n     the host\'s configuration requests find every port' ', and no port holds what its parent does not claim'
+text_bug explain.rs "18 told as 13" 'if refusal.number == 18' 'if refusal.number == 0'
+text_bug explain.rs "18 says held for claimed" 'is claimed by {}' 'is held by {}'
+text_bug explain.rs "how it is claimed left out of 18" 'target_text(Target::Id(id)), holder(named))' 'target_text(Target::Id(id)), in_tree(named))'
+text_bug explain.rs "Type 0 said of an Unsupported Request" 'Conversion::Unsupported => "answers configuration requests for it with Unsupported Request"' 'Conversion::Unsupported => "makes configuration requests for it Type 0"'
+text_bug explain.rs "Unsupported Request said of Type 0" 'Conversion::Type0 => "makes configuration requests for it Type 0"' 'Conversion::Type0 => "answers configuration requests for it with Unsupported Request"'
+text_bug explain.rs "18 says what the parent makes of the port's own ID" 'conversion_text(picture, named.port as usize, id)' 'conversion_text(picture, named.port as usize, picture.ports[named.port as usize].own_id)'
 text_bug tree.rs "the last sibling drawn as one with more below" '!= Some(&port)' '== Some(&port)'
 text_bug tree.rs "the bars of ports above turned round" '[ports_above(picture, parent), vec![parent]]' '[vec![parent], ports_above(picture, parent)]'
 text_bug tree.rs "a window of one MiB left out" 'match base <= last' 'match base + 0xF_FFFF < last'
@@ -219,7 +258,7 @@ text_bug explain_trial.rs "31 tells the last port of the picture for their count
 text_bug patch.rs "the wrong port of a pair in 31" 'Err(Fault::Behind { port, before })' 'Err(Fault::Behind { port: before, before: port })'
 text_bug patch.rs "the running offset and the offset exchanged in 32" 'at: offset, end_before: end' 'at: end, end_before: offset'
 text_bug patch.rs "32 tells where the patch ends for where the vectors do" 'Fault::Ends { at: end }' 'Fault::Ends { at: total }'
-# the edit of the next row: a parent that does not claim the ID without the patch is said to answer Unsupported Request
+# edits of the next rows: a parent that does not claim the ID without the patch is said to answer Unsupported Request
 unpatched_conversion='Ok(patched) => {
     let (old, text) = (crate::judge::Judge::new(picture), explain(&patched));
     let parent_claims = |port: u8| {
@@ -233,7 +272,18 @@ unpatched_conversion='Ok(patched) => {
         _ => text,
     }
 }'
+# the same of 18: a parent that does not claim the ID without the patch, so that 13 is given
+unpatched_18='Ok(patched) => {
+    let (before, after) = (crate::judge::Judge::new(picture).check(), crate::judge::Judge::new(&patched).check());
+    match (before, after) {
+        (Err(before), Err(after)) if before.number == 13 && after.number == 18 => {
+            explain(&patched).replace("makes configuration requests for it Type 0", "answers configuration requests for it with Unsupported Request")
+        }
+        _ => explain(&patched),
+    }
+}'
 text_bug explain_trial.rs "the unpatched picture's conversion said in 15" 'Ok(patched) => explain(&patched)' "$unpatched_conversion"
+text_bug explain_trial.rs "the unpatched picture's conversion said in 18" 'Ok(patched) => explain(&patched)' "$unpatched_18"
 text_bug explain_trial.rs "the unpatched picture's sentence" 'Ok(patched) => explain(&patched)' 'Ok(patched) => crate::judge::Judge::new(&patched).report() + explain(picture).lines().last().unwrap() + "\n"'
 echo "$found of $bugs found"
 [ "$found" -eq "$bugs" ]

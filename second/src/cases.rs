@@ -1,10 +1,11 @@
 //! Hand-written cases with the answers that the papers give: the one-port picture and C1 to C12 of
 //! the paper, the numbered decisions on open points, and the cases that a first build gets wrong. Those
-//! of decoders by name, of trials and of the video range are in files of their own.
+//! of decoders by name, of trials, of the video range and of number 18 are in files of their own.
 
 use crate::batch::Record;
 use crate::claim_cases::claim_cases;
 use crate::draft::{Draft, DraftPort, VectorShape, Which, DOWNSTREAM, NO_PARENT, ROOT, UPSTREAM};
+use crate::stopped_cases::stopped_cases;
 use crate::trial_cases::{cases_before_a_patch, trial_cases};
 use crate::vga_cases::vga_cases;
 use Which::{High, Low, Rid};
@@ -166,6 +167,7 @@ pub fn all_cases() -> Vec<Case> {
         claim_cases(),
         trial_cases(),
         vga_cases(),
+        stopped_cases(),
     ]
     .into_iter()
     .flatten()

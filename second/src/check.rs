@@ -1,4 +1,4 @@
-//! The check of a picture that reads: numbers 11 to 15.
+//! The check of a picture that reads: numbers 11 to 15, and 18.
 
 use crate::claims::Conversion;
 use crate::picture::{AddressRange, Picture, Port, Refusal, Target, Vector, FOUR_GIB, VIDEO_RANGE};
@@ -10,7 +10,7 @@ struct Seen {
     holders: Vec<usize>,
 }
 
-/// The lowest number from 11 to 15 that applies.
+/// The lowest of the numbers 11 to 15 and 18 that applies.
 pub fn check(picture: &Picture) -> Result<(), Refusal> {
     let ids: Vec<Seen> = (0..=0xFFFF).map(|id| see(picture, Target::Id(id))).collect();
     let addresses: Vec<Seen> = candidate_addresses(picture)
@@ -21,7 +21,8 @@ pub fn check(picture: &Picture) -> Result<(), Refusal> {
     refuse_overlap(12, picture, &addresses)?;
     refuse_escape(13, picture, &ids)?;
     refuse_escape(14, picture, &addresses)?;
-    refuse_unreached(picture)
+    refuse_unreached(picture)?;
+    refuse_stopped(picture, &ids)
 }
 
 /// Asks every port about a target.
@@ -135,6 +136,22 @@ fn refuse_unreached(picture: &Picture) -> Result<(), Refusal> {
         let Some(parent) = what.parent else { continue };
         if picture.ports[parent].conversion(what.own_id) != Conversion::Type0 {
             return Err(Refusal::at_port(15, port));
+        }
+    }
+    Ok(())
+}
+
+/// Number 18: the first ID, and at it the lowest port that claims what its parent claims and does not pass on
+/// as Type 1.
+fn refuse_stopped(picture: &Picture, ids: &[Seen]) -> Result<(), Refusal> {
+    for (id, seen) in (0..=0xFFFF).zip(ids) {
+        let stopped = seen.claimers.iter().find(|&&port| match picture.ports[port].parent {
+            Some(parent) => picture.ports[parent].stops(id),
+            None => false,
+        });
+        if let Some(&port) = stopped {
+            let ports = vec![picture.holder(port, seen.target)];
+            return Err(Refusal { number: 18, target: Some(seen.target), ports });
         }
     }
     Ok(())

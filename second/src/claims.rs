@@ -174,6 +174,12 @@ impl Port {
         }
         Conversion::Type1
     }
+
+    /// Does the port make a configuration request for the ID Type 0, or answer it with Unsupported Request,
+    /// so that it does not pass it on as Type 1?
+    pub fn stops(&self, id: u16) -> bool {
+        matches!(self.conversion(id), Conversion::Type0 | Conversion::Unsupported)
+    }
 }
 
 impl Picture {

@@ -6,30 +6,35 @@ use crate::judge::Judge;
 use crate::picture::{header_fields, records_of, Kind, Named, Picture, Record, Refusal, Setting, Target};
 use crate::words::{granularity_text, id_text, kind_text, start_text, vector_name};
 
-/// The texts of the numbers 0 to 15, as tests/number-texts has them.
-pub const NUMBER_TEXTS: [&str; 16] = [
-    "nothing was found wrong",
-    "the picture is shorter than 72 bytes or longer than 65,536",
-    "the picture's edition is not 1",
-    "the picture has no port, or more than 64",
-    "the total length in the header is not the picture's length",
-    "the records or the vectors do not begin where they must, or the records go past the picture's end",
-    "a port breaks a rule of the tree, by its kind, its parent or as a later child",
-    "a port has more than 15 ports above it in its chain",
-    "a port has a vector enabled that it does not support, a size or granularity that may not be, or wrong \
-     low bits in a memory register",
-    "an enabled vector starts where it may not",
-    "a port's vectors do not begin where they must, or the last ones do not end where the picture ends",
-    "an ID has two holders at one place, or a port claims its own ID",
-    "an address has two holders at one place",
-    "a port holds an ID that its parent does not claim",
-    "a port holds an address that its parent does not claim",
-    "a port's own ID is not both claimed and made Type 0 by its parent",
+/// The numbers that the check gives with their texts, as tests/number-texts has them.
+pub const NUMBER_TEXTS: [(u8, &str); 17] = [
+    (0, "nothing was found wrong"),
+    (1, "the picture is shorter than 72 bytes or longer than 65,536"),
+    (2, "the picture's edition is not 1"),
+    (3, "the picture has no port, or more than 64"),
+    (4, "the total length in the header is not the picture's length"),
+    (5, "the records or the vectors do not begin where they must, or the records go past the picture's end"),
+    (6, "a port breaks a rule of the tree, by its kind, its parent or as a later child"),
+    (7, "a port has more than 15 ports above it in its chain"),
+    (
+        8,
+        "a port has a vector enabled that it does not support, a size or granularity that may not be, or \
+         wrong low bits in a memory register",
+    ),
+    (9, "an enabled vector starts where it may not"),
+    (10, "a port's vectors do not begin where they must, or the last ones do not end where the picture ends"),
+    (11, "an ID has two holders at one place, or a port claims its own ID"),
+    (12, "an address has two holders at one place"),
+    (13, "a port holds an ID that its parent does not claim"),
+    (14, "a port holds an address that its parent does not claim"),
+    (15, "a port's own ID is not both claimed and made Type 0 by its parent"),
+    (18, "a port claims an ID that its parent makes Type 0 or refuses and does not pass on as Type 1"),
 ];
 
 /// What follows the text of number 0.
 const CLEAR: &str =
-    ": no ID or address has two holders at one place, and no port holds what its parent does not claim";
+    ": no ID or address has two holders at one place, no port holds what its parent does not claim, and \
+     the host's configuration requests find every port";
 
 /// How a port holds a target: as its own ID, and through each decoder.
 const MANNERS: [&str; 8] = [
@@ -47,8 +52,14 @@ const MANNERS: [&str; 8] = [
 pub fn explain(bytes: &[u8]) -> String {
     let judge = Judge::new(bytes);
     let refusal = judge.check().err().unwrap_or(Refusal::bare(0));
-    let text = with_upper_case(NUMBER_TEXTS[refusal.number as usize]);
+    let text = with_upper_case(number_text(refusal.number));
     format!("{}{text}{}.\n", judge.report(), what_follows(bytes, &judge, &refusal))
+}
+
+/// The text of a number that the check gives.
+pub fn number_text(number: u8) -> &'static str {
+    let (_, text) = NUMBER_TEXTS.iter().find(|(given, _)| *given == number).expect("the check gives it");
+    text
 }
 
 /// The text with its first letter upper case.
@@ -221,7 +232,7 @@ fn manner_text(holding: Option<Holding>) -> String {
     holding.map_or(Vec::new(), |holding| holding.those_of(MANNERS)).join(" and")
 }
 
-/// Numbers 11 to 15.
+/// Numbers 11 to 15, and 18.
 fn check_text(bytes: &[u8], picture: &Picture, refusal: &Refusal) -> String {
     let records = records_of(bytes);
     let in_tree = |named: &Named| port_in_tree(&records, named.port as usize);
@@ -234,25 +245,31 @@ fn check_text(bytes: &[u8], picture: &Picture, refusal: &Refusal) -> String {
         (Some(target), [first, second]) => {
             format!(": {} is held by {} and by {}", target_text(target), holder(first), holder(second))
         }
+        (Some(Target::Id(id)), [named]) if refusal.number == 18 => {
+            let what = conversion_text(picture, named.port as usize, id);
+            format!(": {} is claimed by {}, and {what}", target_text(Target::Id(id)), holder(named))
+        }
         (Some(target), [named]) => {
             let parent = records[named.port as usize].parent();
             let target = target_text(target);
             format!(": {target} is held by {}, and port {parent} does not claim it", holder(named))
         }
         (_, ports) => {
-            let unreached = &ports[0];
-            format!(": {}, and {}", in_tree(unreached), conversion_text(picture, unreached.port as usize))
+            let port = ports[0].port as usize;
+            let what = conversion_text(picture, port, picture.ports[port].own_id);
+            format!(": {}, and {what}", in_tree(&ports[0]))
         }
     }
 }
 
-/// What the parent of a port makes of configuration requests for the port's own ID, if not Type 0.
-fn conversion_text(picture: &Picture, port: usize) -> String {
-    let parent = picture.ports[port].parent.expect("15 names no root port");
-    let what = match picture.ports[parent].conversion(picture.ports[port].own_id) {
+/// What the parent of a port that 15 or 18 names makes of configuration requests for the ID.
+fn conversion_text(picture: &Picture, port: usize, id: u16) -> String {
+    let parent = picture.ports[port].parent.expect("15 and 18 name no root port");
+    let what = match picture.ports[parent].conversion(id) {
+        Conversion::Type0 => "makes configuration requests for it Type 0",
         Conversion::Type1 => "passes configuration requests for it on as Type 1",
         Conversion::Unsupported => "answers configuration requests for it with Unsupported Request",
-        other => unreachable!("{other:?} is no cause of number 15"),
+        Conversion::NotClaimed => unreachable!("number 13 is behind us"),
     };
     format!("port {parent} {what}")
 }

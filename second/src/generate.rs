@@ -15,6 +15,8 @@ use crate::sound::{fill, Taste};
 use crate::spoil::{
     chain_at_the_edge, misplace, reading_edges, scatter_own_ids, scramble_settings, scramble_starts, spoil,
 };
+use crate::stopped::stopped;
+use crate::stopped_calls::write_stopped;
 use crate::topology::{grow, port_count, Form, ALL_FORMS};
 use crate::trials::write_trials;
 use crate::video::{crowd_the_first_mib, has_video, video_edge};
@@ -37,11 +39,17 @@ const TURNS: [u8; 17] = [1, 6, 2, 8, 3, 9, 13, 4, 11, 12, 5, 8, 7, 6, 9, 10, 15]
 /// One of so many pictures of a batch has two ports that meet.
 const MEETING_EVERY: u64 = 8;
 
+/// After one of so many pictures of a batch comes one more, for number 18.
+const STOPPED_EVERY: u64 = 5;
+
+/// Of so many pictures for texts one is for number 18, the one half-way.
+const STOPPED_OF_TEXTS: u64 = 16;
+
 /// How often a picture that reads is asked for a walk of each kind; fewer where two ports meet, in a small one.
 const ROUNDS: usize = 12;
 const ROUNDS_AT_A_MEETING: usize = 6;
 
-/// A batch of so many pictures; the same seed gives the same batch.
+/// A batch of so many pictures, and after every fifth one for number 18; the same seed gives the same batch.
 pub fn generate(seed: u64, count: u64) -> Vec<u8> {
     let mut batch = Vec::new();
     for index in 0..count {
@@ -55,6 +63,9 @@ pub fn generate(seed: u64, count: u64) -> Vec<u8> {
         let rounds = if meets { ROUNDS_AT_A_MEETING } else { ROUNDS };
         write_with_calls(random, &picture, &judge, rounds, &mut batch);
         write_trials(&mut random_of_trials(seed, index), &picture, &judge, &mut batch);
+        if index % STOPPED_EVERY == STOPPED_EVERY - 1 {
+            write_stopped(&mut random_of_stopped(seed, index), index / STOPPED_EVERY, &mut batch);
+        }
     }
     batch
 }
@@ -69,13 +80,21 @@ fn random_of_trials(seed: u64, index: u64) -> Random {
     Random::new(!random_of(seed, index).bits())
 }
 
-/// So many pictures: every other one from the families of a batch, and between them pictures for each
-/// of these numbers in turn.
+/// Those of the picture for number 18 that comes after it, apart from the others too.
+fn random_of_stopped(seed: u64, index: u64) -> Random {
+    Random::new(random_of(seed, index).bits().rotate_left(32))
+}
+
+/// So many pictures: every other one from the families of a batch, of these one in eight for number 18, and
+/// between them pictures for each of these numbers in turn.
 pub fn pictures(seed: u64, count: u64) -> impl Iterator<Item = Vec<u8>> {
     (0..count).map(move |index| {
         let random = &mut random_of(seed, index);
         let (round, turn) = (index as usize / 2 / TURNS.len(), index as usize / 2 % TURNS.len());
         match (index % 2, TURNS[turn]) {
+            (0, _) if index % STOPPED_OF_TEXTS == STOPPED_OF_TEXTS / 2 => {
+                stopped(random, index / STOPPED_OF_TEXTS).draft.bytes()
+            }
             (0, _) => random_picture(random),
             (_, 11) => twice_owned_picture(random),
             (_, 12) => video_picture(random),
@@ -223,11 +242,16 @@ fn full_picture(random: &mut Random) -> Vec<u8> {
 
 /// A random sound picture.
 pub fn sound_draft(random: &mut Random) -> Draft {
+    let (ports, taste) = ports_and_taste(random);
+    fill(random, ports, &taste)
+}
+
+/// Silent ports in any form, and a taste to fill them by.
+pub fn ports_and_taste(random: &mut Random) -> (Vec<DraftPort>, Taste) {
     let form = random.pick(&ALL_FORMS);
     let count = port_count(random);
     let ports = grow(random, form, count);
-    let taste = Taste::random(random);
-    fill(random, ports, &taste)
+    (ports, Taste::random(random))
 }
 
 /// Writes a picture, its report and check, and calls that suit it, with so many rounds of walks.

@@ -38,7 +38,7 @@ impl Judge {
         self.reading.as_ref().map_err(Refusal::clone)
     }
 
-    /// Reads and checks: the lowest number from 1 to 15 that applies.
+    /// Reads and checks: the lowest of the numbers 1 to 15 and 18 that applies.
     pub fn check(&self) -> Result<(), Refusal> {
         let picture = self.reading()?;
         self.checked.get_or_init(|| check(picture)).clone()

@@ -12,8 +12,8 @@ use crate::patches::{new_vectors, old_vectors, Readable};
 use crate::picture::Refusal;
 use crate::random::Random;
 
-/// Clear, then 11 to 15, then 1 to 10.
-pub const ACCEPTED: [Turn; 13] = [
+/// Clear, then 11 to 15, then 1 to 10, then 18.
+pub const ACCEPTED: [Turn; 17] = [
     clear,
     clear_again,
     shared_id,
@@ -27,6 +27,10 @@ pub const ACCEPTED: [Turn; 13] = [
     own_id_passed_on,
     own_id_unsupported,
     unreadable_picture,
+    taken_in_range,
+    taken_on_bus,
+    refused_on_bus,
+    taken_once_claimed,
 ];
 
 /// How often a pair is drawn anew until the trial gives the wanted number.
@@ -122,9 +126,14 @@ fn with_vector(port: DraftPort, which: Which, start: u64) -> DraftPort {
 
 /// The patch that sets one entry of port 0, which has one vector, of 256 entries.
 fn setting_entry(entry: u16) -> Vec<u8> {
+    setting_entry_of(0, entry)
+}
+
+/// The patch that sets one entry of a port that has one vector, of 256 entries.
+fn setting_entry_of(port: u32, entry: u16) -> Vec<u8> {
     let mut bytes = vec![0; 32];
     bytes[entry as usize / 8] = 1 << (entry % 8);
-    PatchDraft::of(&[NewVectors { port: 0, bytes }]).bytes()
+    PatchDraft::of(&[NewVectors { port, bytes }]).bytes()
 }
 
 /// Number 11: by its new vector a port claims its own ID; without it nothing does.
@@ -174,4 +183,51 @@ fn unreadable_picture(random: &mut Random) -> Pair {
     let one_port = PatchDraft::of(&[NewVectors { port, bytes: vec![0; 32] }]).bytes();
     let patch = random.pick(&[Vec::new(), nothing, one_port]);
     Pair { picture: refused_picture(random, number), patch }
+}
+
+/// A root port with bus `bus` as Secondary and 20 buses more.
+fn root_above(random: &mut Random, bus: u16) -> DraftPort {
+    DraftPort::silent(ROOT, NO_PARENT, random.below(256) as u16).buses(bus as u8, bus as u8 + 20)
+}
+
+/// Number 18: by its new vector a port claims the one unit of its parent's Secondary range.
+fn taken_in_range(random: &mut Random) -> Pair {
+    let (bus, entry) = (random.between(1, 200) as u16, random.below(256) as u16);
+    let first_unit = 32 * (bus + 1);
+    let root = with_rid_vector(root_above(random, bus), 0).secondary_range(first_unit + entry, 31);
+    let child = with_rid_vector(DraftPort::silent(UPSTREAM, 0, bus << 8), first_unit);
+    Pair { picture: Draft::of(vec![root, child]).bytes(), patch: setting_entry_of(1, entry) }
+}
+
+/// Number 18: a port claims the bus of its parent's Secondary range by its bus pair, and the first unit of it
+/// by its new vector too.
+fn taken_on_bus(random: &mut Random) -> Pair {
+    let (bus, more) = (random.between(1, 200) as u16, random.between(1, 8) as u16);
+    let first_unit = 32 * (bus + 1);
+    let root = with_rid_vector(root_above(random, bus).with_ari(), 0);
+    let root = root.secondary_range(32 * (bus + more) + random.below(32) as u16, 0);
+    let child = DraftPort::silent(UPSTREAM, 0, bus << 8).buses((bus + more) as u8, (bus + more) as u8);
+    let ports = vec![root, with_rid_vector(child, first_unit)];
+    Pair { picture: Draft::of(ports).bytes(), patch: setting_entry_of(1, 32 * (more - 1)) }
+}
+
+/// Number 18: by its new vector a port claims another device than 0 of its parent's bus Secondary.
+fn refused_on_bus(random: &mut Random) -> Pair {
+    let (bus, entry) = (random.between(1, 200) as u16, random.between(1, 31) as u16);
+    let child = with_rid_vector(DraftPort::silent(UPSTREAM, 0, bus << 8), 32 * bus);
+    Pair {
+        picture: Draft::of(vec![root_above(random, bus), child]).bytes(),
+        patch: setting_entry_of(1, entry),
+    }
+}
+
+/// Number 18: a port claims the one unit of its parent's Secondary range, which the parent claims by its new
+/// vector alone.
+fn taken_once_claimed(random: &mut Random) -> Pair {
+    let (bus, entry) = (random.between(1, 200) as u16, random.below(256) as u16);
+    let first_unit = 32 * (bus + 21);
+    let root = with_rid_vector(root_above(random, bus), first_unit).secondary_range(first_unit + entry, 0);
+    let mut child = with_rid_vector(DraftPort::silent(UPSTREAM, 0, bus << 8), first_unit);
+    child.flip_entry(Which::Rid, entry as u64);
+    Pair { picture: Draft::of(vec![root, child]).bytes(), patch: setting_entry(entry) }
 }

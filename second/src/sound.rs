@@ -84,16 +84,38 @@ struct Filling<'a> {
     /// Which ports claim the video range by VGA Enable.
     video: Vec<bool>,
     bytes_left: usize,
+    /// Ports get only IDs that the port above passes on as Type 1.
+    holds_back: bool,
 }
 
-/// Fills silent ports soundly; the plain taste is the last resort. Ports are dropped from the end
-/// where even that finds no IDs for all.
-pub fn fill(random: &mut Random, mut ports: Vec<DraftPort>, taste: &Taste) -> Draft {
+/// A filled picture, and whether each port passes on as Type 1 all that the ports below it claim.
+struct Filled {
+    draft: Draft,
+    passes_on: bool,
+}
+
+/// Fills silent ports soundly: as it comes, and if a port then claims what the one above does not pass on as
+/// Type 1, once more with that held back.
+pub fn fill(random: &mut Random, ports: Vec<DraftPort>, taste: &Taste) -> Draft {
+    match fill_by_taste(random, ports.clone(), taste, false) {
+        Filled { draft, passes_on: true } => draft,
+        _ => fill_by_taste(random, ports, taste, true).draft,
+    }
+}
+
+/// Fills silent ports such that nothing is wrong but, often, what number 18 is given for.
+pub fn fill_as_it_comes(random: &mut Random, ports: Vec<DraftPort>, taste: &Taste) -> Draft {
+    fill_by_taste(random, ports, taste, false).draft
+}
+
+/// Fills silent ports; the plain taste is the last resort. Ports are dropped from the end where even that
+/// finds no IDs for all.
+fn fill_by_taste(random: &mut Random, mut ports: Vec<DraftPort>, taste: &Taste, holds_back: bool) -> Filled {
     loop {
         for attempt in 0..4 {
             let taste = if attempt < 3 { taste.clone() } else { Taste::plain() };
-            if let Some(draft) = try_to_fill(random, ports.clone(), taste) {
-                return draft;
+            if let Some(filled) = try_to_fill(random, ports.clone(), taste, holds_back) {
+                return filled;
             }
         }
         ports.pop();
@@ -101,18 +123,19 @@ pub fn fill(random: &mut Random, mut ports: Vec<DraftPort>, taste: &Taste) -> Dr
 }
 
 /// Fills silent ports, if the IDs suffice.
-fn try_to_fill(random: &mut Random, ports: Vec<DraftPort>, taste: Taste) -> Option<Draft> {
+fn try_to_fill(random: &mut Random, ports: Vec<DraftPort>, taste: Taste, holds_back: bool) -> Option<Filled> {
     let count = ports.len();
     let bytes_left = MOST_VECTOR_BYTES - 56 * count;
     let ids = vec![Pool::default(); count];
     let memory = vec![Pool::default(); count];
     let video = vec![false; count];
-    let mut filling = Filling { random, taste, ports, ids, memory, video, bytes_left };
+    let mut filling = Filling { random, taste, ports, ids, memory, video, bytes_left, holds_back };
     filling.hand_out_at(None)?;
     for port in 0..count {
         filling.hand_out_at(Some(port))?;
     }
-    Some(Draft::of(filling.ports))
+    let passes_on = (0..count).all(|port| filling.passes_on(port));
+    Some(Filled { draft: Draft::of(filling.ports), passes_on })
 }
 
 impl Filling<'_> {
@@ -139,14 +162,18 @@ impl Filling<'_> {
         Some(())
     }
 
-    /// Own IDs first, from what is Type 0 at the place's port; the rest is shared out to be claimed.
+    /// Own IDs first, from what is Type 0 at the place's port; the rest is shared out to be claimed, or what
+    /// of it is passed on.
     fn hand_out_ids(&mut self, place: Option<usize>, children: &[usize], weights: &[u64]) -> Option<()> {
         let (pool, reached) = match place {
             None => (Pool::of(vec![(0, UNITS)]), Pool::of(vec![(0, UNITS)])),
             Some(port) => (self.ids[port].clone(), self.type_0_units(port)),
         };
         let own_units = self.hand_out_own_ids(children, &reached)?;
-        let rest = pool.without(&own_units);
+        let rest = match place {
+            Some(port) if self.holds_back => pool.without(&self.stopped_units(port)),
+            _ => pool.without(&own_units),
+        };
         let scattered = self.random.percent(self.taste.scattered);
         let shares = rest.share(self.random, weights, self.taste.id_cell, scattered);
         for ((&child, &weight), share) in children.iter().zip(weights).zip(&shares) {
@@ -196,6 +223,22 @@ impl Filling<'_> {
             ranges.push((first, first + if upstream || ari { UNITS_OF_A_BUS } else { 1 }));
         }
         Pool::of(ranges).intersection(&self.ids[port])
+    }
+
+    /// The units for which the port makes configuration requests Type 0, or answers them with Unsupported
+    /// Request.
+    fn stopped_units(&self, port: usize) -> Pool {
+        let registers = &self.ports[port];
+        let first = registers.secondary as u64 * UNITS_OF_A_BUS;
+        let claims = registers.secondary <= registers.subordinate && registers.subordinate > 0;
+        let secondary_bus = (first, if claims { first + UNITS_OF_A_BUS } else { first });
+        self.type_0_units(port).union(&Pool::of(vec![secondary_bus]))
+    }
+
+    /// Does the port pass on as Type 1 all that the ports below it claim?
+    fn passes_on(&self, port: usize) -> bool {
+        let stopped = self.stopped_units(port);
+        self.ports_at(Some(port)).into_iter().all(|child| self.ids[child].intersection(&stopped).is_empty())
     }
 
     /// Lets the port claim part of its share of IDs, by bus pair, RID vector or both; several tries

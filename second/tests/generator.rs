@@ -12,7 +12,7 @@ use second::picture::{read, Picture, Port, VIDEO_RANGE};
 use second::random::Random;
 use second::samples::{sample, SAMPLE_NAMES};
 use second::spoil::reading_edges;
-use second::walk::End;
+use second::walk::{walk_configuration, End};
 use second::wild::{add_noise, wild};
 
 #[test]
@@ -154,9 +154,11 @@ fn the_same_seed_gives_the_same_batch() {
     assert_ne!(generate(5, 20), generate(6, 20));
 }
 
-/// The seeds of the batches that tests/differential.sh takes, and how many pictures of each are looked at.
+/// The seeds of the batches that tests/differential.sh takes, and how many pictures of each are looked at; for
+/// every five of these there is one more, for number 18.
 const SEEDS: [u64; 2] = [1, 2];
 const PICTURES: u64 = 250;
+const DRAWN: usize = SEEDS.len() * (PICTURES + PICTURES / 5) as usize;
 
 /// The records of a batch with the answers to its calls.
 fn answered(seed: u64) -> Vec<(Record, Option<String>)> {
@@ -192,7 +194,7 @@ fn all_numbers_and_ends_occur() {
             _ => false,
         };
     }
-    assert_eq!(checked, (0..=15).collect());
+    assert_eq!(checked, (0..=15).chain([18]).collect());
     for (kind, end) in [(0, 1), (0, 2), (0, 3), (0, 4), (0, 5), (1, 1), (1, 3), (1, 4), (1, 5)] {
         assert!(ended.contains(&(kind, format!("{end:02}"))), "kind {kind} end {end}");
     }
@@ -214,7 +216,7 @@ fn all_numbers_of_trials_occur() {
             _ => false,
         };
     }
-    assert_eq!(checked, (0..=15).chain(30..=32).collect());
+    assert_eq!(checked, (0..=15).chain([18]).chain(30..=32).collect());
     for (kind, ends) in [(0, 1..=5), (2, 1..=5), (1, 3..=5)] {
         ends.for_each(|end| assert!(walked.contains(&(kind, format!("{end:02}"))), "kind {kind} end {end}"));
     }
@@ -316,7 +318,7 @@ fn every_set_of_decoders_occurs_among_holders() {
     answers.have(2, &["refused 6", "refused 7", "refused 8", "refused 9", "refused 10"]);
 }
 
-/// What the lines of 11 to 14 say, of pictures and of trials: `12 mem low` for each port of a pair and for
+/// What the lines of 11 to 14 and 18 say, of pictures and of trials: `12 mem low` for each port of a pair and for
 /// one that is alone, `12 mem, mem low` for a pair, and `itself own rid` for a port with itself.
 fn words_of_lines() -> Counts {
     let mut counts = Counts::default();
@@ -324,7 +326,7 @@ fn words_of_lines() -> Counts {
         let Some((what, ports)) = line.split_once(" ports ") else { continue };
         let number = what.split(' ').nth(1).expect("a refusal has a number");
         if !matches!(call, Record::Report | Record::TrialReport)
-            || !matches!(number, "11" | "12" | "13" | "14")
+            || !matches!(number, "11" | "12" | "13" | "14" | "18")
         {
             continue;
         }
@@ -342,7 +344,7 @@ fn words_of_lines() -> Counts {
 }
 
 #[test]
-fn every_set_of_decoders_occurs_in_the_lines_of_11_to_14() {
+fn every_set_of_decoders_occurs_in_the_lines_of_11_to_14_and_18() {
     let counts = words_of_lines();
     let of = |number: u32, sets: &[&str]| {
         sets.iter().for_each(|set| counts.have(2, &[&format!("{number} {set}")]));
@@ -353,6 +355,7 @@ fn every_set_of_decoders_occurs_in_the_lines_of_11_to_14() {
     of(13, &["own"]);
     of(13, &OF_IDS);
     of(14, &OF_ADDRESSES);
+    counts.have(20, &["18 bus", "18 rid", "18 bus rid"]);
     of(12, &OF_VIDEO);
     counts.have(10, &["12 vga, vga", "14 vga"]);
     counts.have(2, &["12 vga, mem", "12 vga, mem vga", "12 low vga, vga"]);
@@ -393,6 +396,45 @@ fn walks_go_to_the_edges_of_the_video_range() {
     counts.have(30, &["end 01", "end 03", "end 04", "end 05"]);
 }
 
+/// Does a configuration request from the host for the own ID of every port end at that port's Function?
+fn every_port_is_found(judge: &Judge) -> bool {
+    let picture = judge.reading().expect("the picture reads");
+    let end_of = |id: u16| walk_configuration(picture, None, id).end;
+    (0..picture.ports.len()).all(|port| end_of(picture.ports[port].own_id) == End::Function { port })
+}
+
+/// The checks among the records and what they give, each with the judge of the picture or of the trial.
+fn judged_checks() -> Vec<(&'static str, &'static str, Judge)> {
+    let (mut picture, mut patch) = (&[][..], &[][..]);
+    let mut checks = Vec::new();
+    for (record, answer) in records_with_answers() {
+        let number = answer.as_ref().and_then(|line| line.split(' ').next()).unwrap_or("");
+        match record {
+            Record::Picture(bytes) => picture = bytes,
+            Record::Patch(bytes) => patch = bytes,
+            Record::Check => checks.push(("picture", number, Judge::new(picture))),
+            Record::TrialCheck => checks.push(("trial", number, Judge::of_trial(picture, patch))),
+            _ => {}
+        }
+    }
+    checks
+}
+
+#[test]
+fn in_a_clear_picture_or_trial_every_port_is_found() {
+    let mut counts = Counts::default();
+    for (what, number, judge) in judged_checks() {
+        if number == "0" {
+            assert!(every_port_is_found(&judge), "{what}: {}", judge.report());
+            counts.add(what);
+        } else if number == "18" && !every_port_is_found(&judge) {
+            counts.add(format!("{what}, one not found"));
+        }
+    }
+    counts.have(100, &["picture", "trial"]);
+    counts.have(20, &["picture, one not found", "trial, one not found"]);
+}
+
 #[test]
 fn every_picture_is_asked_with_arguments_that_are_refused() {
     let mut counts = Counts::default();
@@ -400,7 +442,7 @@ fn every_picture_is_asked_with_arguments_that_are_refused() {
     for (record, _) in records_with_answers() {
         match *record {
             Record::Picture(ref bytes) => count = bytes.get(2).copied().unwrap_or(0) as u32,
-            Record::Report => counts.add("report"),
+            Record::Check => counts.add("check"),
             Record::Claim { target_kind, .. } if target_kind > 1 => {
                 counts.add(format!("claim kind {target_kind}"))
             }
@@ -424,7 +466,7 @@ fn every_picture_is_asked_with_arguments_that_are_refused() {
         &["conversion count", "conversion port 64", "conversion port 4294967295", "conversion 10000h"],
     );
     counts.have(10, &["holders kind 2", "holders kind 3", "holders kind 4294967295", "holders 10000h"]);
-    assert_eq!(counts.0["report"], SEEDS.len() * PICTURES as usize);
+    assert_eq!(counts.0["check"], DRAWN);
 }
 
 #[test]
@@ -432,14 +474,14 @@ fn every_picture_is_asked_for_claims_conversions_and_holders() {
     let mut asked = Vec::new();
     for (call, _) in calls_with_answers() {
         match call {
-            Record::Report => asked.push([0; 3]),
-            Record::Claim { .. } => asked.last_mut().expect("a report comes first")[0] += 1,
-            Record::Conversion { .. } => asked.last_mut().expect("a report comes first")[1] += 1,
-            Record::Holders { .. } => asked.last_mut().expect("a report comes first")[2] += 1,
+            Record::Check => asked.push([0; 3]),
+            Record::Claim { .. } => asked.last_mut().expect("a check comes first")[0] += 1,
+            Record::Conversion { .. } => asked.last_mut().expect("a check comes first")[1] += 1,
+            Record::Holders { .. } => asked.last_mut().expect("a check comes first")[2] += 1,
             _ => {}
         }
     }
-    assert_eq!(asked.len(), SEEDS.len() * PICTURES as usize);
+    assert_eq!(asked.len(), DRAWN);
     assert!(asked.iter().flatten().all(|&count| count > 0));
 }
 

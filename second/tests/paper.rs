@@ -103,6 +103,18 @@ headings! {
     walks_to_the_display_card: "item 4, walks",
     doubled_walks_to_the_video_range: "item 4, doubled",
     trials_with_the_video_range: "item 4, trials",
+    the_secondary_range_of_an_upstream_port: "item 7, upstream range",
+    the_secondary_range_with_ari: "item 7, ARI range",
+    the_secondary_range_of_one_unit: "item 7, one unit",
+    the_bus_secondary_of_an_upstream_port: "item 7, upstream bus",
+    the_bus_secondary_with_ari: "item 7, ARI bus",
+    device_0_of_the_bus_secondary: "item 7, device 0",
+    other_devices_of_the_bus_secondary: "item 7, other devices",
+    where_18_is_not_given: "item 7, clear",
+    the_least_id_and_the_lowest_port_of_18: "item 7, named",
+    numbers_before_18: "item 7, order",
+    requests_that_a_middle_port_takes: "item 7, walks",
+    trials_with_number_18: "item 7, trials",
 }
 
 /// The entry of a target in a vector of 256 entries.

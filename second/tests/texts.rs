@@ -1,7 +1,7 @@
 //! The sentence and the drawing, held against what docs/PICTURE.md writes out.
 
 use second::draft::{Draft, DraftPort, VectorShape, Which, DOWNSTREAM, NO_PARENT, ROOT, UPSTREAM};
-use second::explain::{explain, NUMBER_TEXTS};
+use second::explain::{explain, number_text, NUMBER_TEXTS};
 use second::explain_trial::PATCH_TEXTS;
 use second::generate::pictures;
 use second::judge::Judge;
@@ -25,8 +25,8 @@ fn shape(granularity_code: u32, start: u64) -> VectorShape {
 /// The report's line is this one, and after the number's text the sentence goes on so.
 fn says(picture: &[u8], line: &str, follows: &str) {
     let text = explain(picture);
-    let number: usize = line.split(' ').nth(1).expect("a refusal has a number").parse().expect("a number");
-    let (first, rest) = NUMBER_TEXTS[number].split_at(1);
+    let number = line.split(' ').nth(1).expect("a refusal has a number").parse().expect("a number");
+    let (first, rest) = number_text(number).split_at(1);
     assert_eq!(text, format!("{line}\n{}{rest}{follows}.\n", first.to_uppercase()));
 }
 
@@ -34,19 +34,20 @@ fn says(picture: &[u8], line: &str, follows: &str) {
 fn the_texts_are_those_of_the_repository() {
     let path = concat!(env!("CARGO_MANIFEST_DIR"), "/../tests/number-texts");
     let file = std::fs::read_to_string(path).expect("tests/number-texts is there");
-    let numbered = |first: usize, texts: &[&str]| -> Vec<String> {
-        texts.iter().enumerate().map(|(i, text)| format!("{} {text}", first + i)).collect()
-    };
-    let lines: Vec<&str> = file.lines().collect();
-    assert_eq!(lines[..16], numbered(0, &NUMBER_TEXTS));
-    assert_eq!(lines[18..], numbered(30, &PATCH_TEXTS));
+    let of_patches = (30..).zip(PATCH_TEXTS);
+    let ours: Vec<String> =
+        NUMBER_TEXTS.into_iter().chain(of_patches).map(|(number, text)| format!("{number} {text}")).collect();
+    let of_calls_alone = |line: &&str| line.starts_with("16 ") || line.starts_with("17 ");
+    let lines: Vec<&str> = file.lines().filter(|line| !of_calls_alone(line)).collect();
+    assert_eq!(lines, ours);
 }
 
 #[test]
 fn a_clear_picture() {
     let text = explain(&bytes(&[root()]));
     let sentence = "Nothing was found wrong: no ID or address has two holders at one place, \
-                    and no port holds what its parent does not claim.\n";
+                    no port holds what its parent does not claim, \
+                    and the host's configuration requests find every port.\n";
     assert_eq!(text, format!("ports 1\nclear\n{sentence}"));
 }
 
@@ -319,6 +320,34 @@ fn own_ids_that_are_not_reached() {
 }
 
 #[test]
+fn what_a_parent_does_not_pass_on() {
+    let above = [root().buses(1, 4), DraftPort::silent(UPSTREAM, 0, 0x0100).buses(2, 4)];
+    let ranged = above[1].clone().vector(Which::Rid, shape(0, 0), &[]).secondary_range(0x60, 0);
+    let child = |own_id| DraftPort::silent(DOWNSTREAM, 1, own_id);
+    let rid = |port: DraftPort, unit| port.vector(Which::Rid, shape(0, 0), &[unit]);
+    let (bus, vector) = ("through its bus range", "through its RID vector");
+    let both = format!("{bus} and {vector}");
+    for (child, id, by, manner) in [
+        (child(0x0200).buses(3, 3), "03:00.0 (0300)", "id 0300 ports 2 by bus", bus),
+        (rid(child(0x0200), 0x60), "03:00.0 (0300)", "id 0300 ports 2 by rid", vector),
+        (rid(child(0x0200).buses(3, 4), 0x60), "03:00.0 (0300)", "id 0300 ports 2 by bus rid", &both),
+        (rid(child(0x0207), 0x41), "02:01.0 (0208)", "id 0208 ports 2 by rid", vector),
+    ] {
+        let own_id = if child.own_id == 0x0200 { "02:00.0" } else { "02:00.7" };
+        let picture = bytes(&[above[0].clone(), ranged.clone(), child]);
+        let port = format!("port 2 ({own_id}, below port 1, 01:00.0, below port 0, 00:01.0)");
+        let what = "port 1 makes configuration requests for it Type 0";
+        let follows = format!(": ID {id} is claimed by {port} {manner}, and {what}");
+        says(&picture, &format!("refused 18 {by}"), &follows);
+    }
+    let picture = bytes(&[above[0].clone(), rid(DraftPort::silent(UPSTREAM, 0, 0x0100), 0x22)]);
+    let follows = ": ID 01:02.0 (0110) is claimed by port 1 (01:00.0, below port 0, 00:01.0) \
+                   through its RID vector, \
+                   and port 0 answers configuration requests for it with Unsupported Request";
+    says(&picture, "refused 18 id 0110 ports 1 by rid", follows);
+}
+
+#[test]
 fn the_drawing_of_the_page() {
     let down = |own_id| DraftPort::silent(DOWNSTREAM, 2, own_id).with_memory_space(true);
     let picture = bytes(&[
@@ -387,7 +416,7 @@ fn a_picture_that_does_not_read_is_refused() {
 #[test]
 fn pictures_of_all_numbers_occur_and_one_seed_gives_the_same() {
     let drawn: Vec<Vec<u8>> = pictures(1, 150).collect();
-    for number in 0..=15 {
+    for number in (0..=15).chain([18]) {
         let is_given = |picture: &&Vec<u8>| match Judge::new(picture).check() {
             Ok(()) => number == 0,
             Err(refusal) => refusal.number == number,
@@ -398,7 +427,7 @@ fn pictures_of_all_numbers_occur_and_one_seed_gives_the_same() {
 }
 
 /// What the texts of 150 pictures, as many as tests/differential.sh takes, have somewhere.
-const PHRASES: [&str; 49] = [
+const PHRASES: [&str; 53] = [
     "it has none",
     "it has more than 65,536.",
     "the header says",
@@ -439,6 +468,10 @@ const PHRASES: [&str; 49] = [
     "does not claim it",
     "on as Type 1",
     "with Unsupported Request",
+    "is claimed by port",
+    ") through its bus range, and port ",
+    ") through its RID vector, and port ",
+    "makes configuration requests for it Type 0",
     "memory space off",
     "; prefetchable ",
     "device port; video 000a0000-000bffff",
@@ -459,4 +492,7 @@ fn every_phrase_occurs() {
     let without_granularity =
         |part: &str| part.contains("has size code") && !part.contains("granularity code");
     assert!(texts.split([';', '\n']).any(without_granularity));
+    let of_18 = |end: &str| texts.lines().any(|line| line.contains("is claimed by") && line.ends_with(end));
+    assert!(of_18("makes configuration requests for it Type 0."));
+    assert!(of_18("answers configuration requests for it with Unsupported Request."));
 }

@@ -200,7 +200,7 @@ fn number_15_is_told_of_the_new_vectors() {
 }
 
 /// What the texts of 60 pairs, as many as tests/differential.sh takes, have somewhere.
-const PHRASES: [&str; 28] = [
+const PHRASES: [&str; 31] = [
     ": it has 0 bytes.",
     ": it has 1 byte.",
     ": it has 7 bytes.",
@@ -224,6 +224,9 @@ const PHRASES: [&str; 28] = [
     "refused 12 addr",
     "refused 13 id",
     "refused 14 addr",
+    "refused 18 id",
+    "is claimed by port 1 (",
+    "makes configuration requests for it Type 0.",
     "on as Type 1",
     "with Unsupported Request",
     ", a root port)",
@@ -271,7 +274,7 @@ fn both_sides_of_every_form_occur() {
 #[test]
 fn each_turn_gives_its_number_for_every_seed() {
     for seed in 1..=5 {
-        let numbers: Vec<u8> = pairs(seed, 36)
+        let numbers: Vec<u8> = pairs(seed, 40)
             .map(|pair| {
                 Judge::of_trial(&pair.picture, &pair.patch).check().map_or_else(|found| found.number, |()| 0)
             })
@@ -280,7 +283,39 @@ fn each_turn_gives_its_number_for_every_seed() {
         assert_eq!(numbers[..22], wanted, "seed {seed}");
         assert_eq!(numbers[23..35], [0, 0, 11, 11, 11, 12, 12, 12, 13, 14, 15, 15], "seed {seed}");
         assert!((1..=10).contains(&numbers[35]), "seed {seed}");
+        assert_eq!(numbers[36..], [18; 4], "seed {seed}");
     }
+}
+
+#[test]
+fn what_is_not_passed_on_is_claimed_by_a_new_vector() {
+    for seed in 1..=5 {
+        let drawn: Vec<_> = pairs(seed, 40).skip(36).collect();
+        let befores = ["clear", "by bus", "clear", "by rid"];
+        let afters = ["by rid", "by bus rid", "by rid", "by rid"];
+        for ((pair, before), after) in drawn.iter().zip(befores).zip(afters) {
+            let alone = Judge::new(&pair.picture).report();
+            let tried = Judge::of_trial(&pair.picture, &pair.patch).report();
+            assert!(alone.ends_with(&format!("{before}\n")), "seed {seed}: {alone}");
+            assert!(tried.ends_with(&format!(" ports 1 {after}\n")), "seed {seed}: {tried}");
+        }
+        assert!(Judge::new(&drawn[3].picture).report().starts_with("refused 13 "), "seed {seed}");
+    }
+}
+
+#[test]
+fn number_18_is_told_of_the_new_vectors() {
+    let parent = with_vector(root().buses(1, 1), Which::Rid, 0x40).secondary_range(0x40, 0);
+    let child = DraftPort::silent(UPSTREAM, 0, 0x0100);
+    let shape = VectorShape { size_code: 0, granularity_code: 0, start: 0x40 };
+    let picture = bytes(&[parent, child.vector(Which::Rid, shape, &[0])]);
+    assert_eq!(Judge::new(&picture).report(), "refused 13 id 0200 ports 1 by rid\n");
+    let mut set = patch(1, 48, &[(0, 16)], 32);
+    set[16] = 1;
+    let sentence = "A port claims an ID that its parent makes Type 0 or refuses and does not pass on as \
+                    Type 1: ID 02:00.0 (0200) is claimed by port 1 (01:00.0, below port 0, 00:01.0) \
+                    through its RID vector, and port 0 makes configuration requests for it Type 0.";
+    assert_eq!(explain_trial(&picture, &set), format!("refused 18 id 0200 ports 1 by rid\n{sentence}\n"));
 }
 
 #[test]
