@@ -74,14 +74,16 @@ pub enum Step {
     Cross(PortNo, Whereabouts),
 }
 
-// What the check looks for at a target: 11 and 12, two ports that hold it; 13 and 14, a port that strays.
+// What the check looks for at a target: 11 and 12, two ports that hold it; 13 and 14, a port that strays; 18, a port that claims
+// it and whose parent takes configuration requests for it.
 #[derive(Clone, Copy)]
 pub enum Fault {
     Shared,
     Stray,
+    Taken,
 }
 
-// What the check finds: numbers 11 and 12 with the least target and the first pair, 13 and 14 with the least target and
+// What the check finds: numbers 11 and 12 with the least target and the first pair, 13, 14 and 18 with the least target and
 // the port, 15 with the port.
 #[derive(Clone, Copy)]
 pub enum Verdict {
@@ -89,4 +91,5 @@ pub enum Verdict {
     Shared(Target, PortNo, PortNo),
     Stray(Target, PortNo),
     Lost(PortNo),
+    Taken(Target, PortNo),
 }

@@ -1,8 +1,8 @@
-// The check's verdict: numbers 11 to 15, the lowest that applies, with its least target and the ports that it names.
+// The check's verdict: numbers 11 to 15 and 18, the lowest that applies, with its least target and the ports that it names.
 use crate::chassis::Verdict;
 use crate::culprits::first_pair;
 use crate::culprits::lowest;
-use crate::culprits::lowest_stray;
+use crate::culprits::lowest_port;
 use crate::culprits::PortFault;
 use crate::ids::Rid;
 use crate::ids::Space;
@@ -10,6 +10,7 @@ use crate::ids::Target;
 use crate::least::Found;
 use crate::overlaps::least_shared;
 use crate::overlaps::least_stray;
+use crate::overlaps::least_taken;
 use crate::picture::Culprit;
 
 // The target of a space by its number.
@@ -30,14 +31,25 @@ fn shared_at(s: &[u8], n: u8, t: Target) -> Verdict {
 
 // Number 13 or 14, at the least target.
 fn stray_at(s: &[u8], n: u8, t: Target) -> Verdict {
-    Verdict::Stray(t, lowest_stray(s, n, t))
+    Verdict::Stray(t, lowest_port(s, n, PortFault::Stray(t)))
 }
 
-// Number 15, or none.
+// Number 18, or none.
+fn from_18(s: &[u8], n: u8) -> Verdict {
+    match least_taken(s, n) {
+        Found::At(id) => {
+            let t = target_in(Space::Ids, id);
+            Verdict::Taken(t, lowest_port(s, n, PortFault::Taken(t)))
+        }
+        Found::Nothing => Verdict::Clear,
+    }
+}
+
+// Number 15, or a higher one.
 fn from_15(s: &[u8], n: u8) -> Verdict {
     match lowest(s, n, PortFault::Lost) {
         Culprit::Port(p) => Verdict::Lost(p),
-        Culprit::Nobody => Verdict::Clear,
+        Culprit::Nobody => from_18(s, n),
     }
 }
 
@@ -65,7 +77,7 @@ fn from_12(s: &[u8], n: u8) -> Verdict {
     }
 }
 
-// The lowest of numbers 11 to 15 that applies to a picture of n ports.
+// The lowest of numbers 11 to 15 and 18 that applies to a picture of n ports.
 pub fn verdict(s: &[u8], n: u8) -> Verdict {
     match least_shared(s, n, Space::Ids) {
         Found::At(t) => shared_at(s, n, target_in(Space::Ids, t)),

@@ -14,12 +14,12 @@ use crate::registers::Mechanism;
 use crate::registers::Port;
 
 // The unit where the Secondary range starts.
-fn secondary_start(f: Fpb) -> Unit {
+pub fn secondary_start(f: Fpb) -> Unit {
     Unit(((f.rid_control_2 >> 3) % 8192) as u16)
 }
 
 // How many units an upstream port's Secondary range has: a field of n means n + 1 device numbers.
-fn secondary_units(f: Fpb) -> u16 {
+pub fn secondary_units(f: Fpb) -> u16 {
     ((f.capabilities >> 3) % 32) as u16 + 1
 }
 

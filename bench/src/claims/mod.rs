@@ -5,6 +5,8 @@ mod decoders;
 pub use crate::claims::conversions::conversion;
 pub use crate::claims::conversions::converted_by_bus;
 pub use crate::claims::conversions::in_secondary_range;
+pub use crate::claims::conversions::secondary_start;
+pub use crate::claims::conversions::secondary_units;
 pub use crate::claims::decoders::base_of;
 pub use crate::claims::decoders::bus_claims;
 pub use crate::claims::decoders::high_claims;

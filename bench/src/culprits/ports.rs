@@ -1,9 +1,10 @@
-// Numbers 13 to 15: the lowest port that strays at a target, or whose own ID is lost.
+// Numbers 13 to 15 and 18: the lowest port that strays at a target, whose own ID is lost, or whose parent takes what it claims.
 use crate::chassis::Conversion;
 use crate::claims::claims;
 use crate::claims::conversion;
 use crate::claims::holds;
 use crate::claims::own_id;
+use crate::culprits::taken::taken_at;
 use crate::ids::PortNo;
 use crate::ids::Target;
 use crate::picture::Culprit;
@@ -15,6 +16,7 @@ use crate::trees::parent_at;
 pub enum PortFault {
     Stray(Target),
     Lost,
+    Taken(Target),
 }
 
 // Whether port p is no root port and holds a target that its parent does not claim.
@@ -44,6 +46,7 @@ fn has_fault(s: &[u8], fault: PortFault, p: PortNo) -> bool {
     match fault {
         PortFault::Stray(t) => strays_at(s, t, p),
         PortFault::Lost => own_id_lost(s, p),
+        PortFault::Taken(t) => taken_at(s, t, p),
     }
 }
 
@@ -59,9 +62,9 @@ pub fn lowest(s: &[u8], n: u8, fault: PortFault) -> Culprit {
     Culprit::Nobody
 }
 
-// The lowest of n ports that strays at a target; 255 where none does.
-pub fn lowest_stray(s: &[u8], n: u8, t: Target) -> PortNo {
-    match lowest(s, n, PortFault::Stray(t)) {
+// The same by its number, 255 where none has it.
+pub fn lowest_port(s: &[u8], n: u8, fault: PortFault) -> PortNo {
+    match lowest(s, n, fault) {
         Culprit::Port(p) => p,
         Culprit::Nobody => PortNo(255),
     }

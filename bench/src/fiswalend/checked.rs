@@ -36,6 +36,7 @@ fn verdict_bytes(v: Verdict) -> [u8; 40] {
             with_target(found_head(by_target(t, 13, 14), p, PortNo(255)), target_number(t))
         }
         Verdict::Lost(p) => without_places(found_head(15, p, PortNo(255))),
+        Verdict::Taken(t, p) => with_target(found_head(18, p, PortNo(255)), target_number(t)),
     }
 }
 

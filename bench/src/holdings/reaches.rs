@@ -14,7 +14,7 @@ use crate::spans::ranges::Range;
 use crate::spans::Reach;
 
 // A range, or the empty one.
-fn range_if(on: bool, lo: u64, hi: u64) -> Range {
+pub fn range_if(on: bool, lo: u64, hi: u64) -> Range {
     if on {
         Range { lo, hi }
     } else {
@@ -23,12 +23,12 @@ fn range_if(on: bool, lo: u64, hi: u64) -> Range {
 }
 
 // A vector's grid, within the range if the mechanism is enabled.
-fn grid_if(on: bool, f: Fpb, m: Mechanism, lo: u64, hi: u64) -> Grid {
+pub fn grid_if(on: bool, f: Fpb, m: Mechanism, lo: u64, hi: u64) -> Grid {
     Grid { within: range_if(on & enabled(f, m), lo, hi), settings: settings(f, m) }
 }
 
 // The IDs of the bus pair.
-fn bus_range(on: bool, b: Bridge) -> Range {
+pub fn bus_range(on: bool, b: Bridge) -> Range {
     range_if(
         on & !((b.secondary == 0) & (b.subordinate == 0)),
         b.secondary as u64 * 256,
@@ -64,7 +64,7 @@ fn id_reach(p: Port, own: bool, claims: bool) -> Reach {
 }
 
 // Addresses: the memory decoders.
-fn address_reach(p: Port, on: bool) -> Reach {
+pub fn address_reach(p: Port, on: bool) -> Reach {
     let b = p.bridge;
     let f = p.fpb;
     Reach {

@@ -12,8 +12,8 @@ use crate::trees::parent_at;
 fn with_pair(s: &[u8], space: Space, p: PortNo, q: PortNo, best: Found) -> Found {
     if parent_at(s, p).0 == parent_at(s, q).0 {
         let apart = !(p.0 == q.0);
-        let a = Holding { port: p, own: true, claims: apart };
-        let b = Holding { port: q, own: apart, claims: true };
+        let a = Holding { port: p, own: true, claims: apart, taken: false };
+        let b = Holding { port: q, own: apart, claims: true, taken: false };
         least_meeting(s, space, a, b, true, best)
     } else {
         best

@@ -14,8 +14,8 @@ fn with_child(s: &[u8], space: Space, p: PortNo, best: Found) -> Found {
     if kind_at(s, p) == 0 {
         return best;
     }
-    let held = Holding { port: p, own: true, claims: true };
-    let claimed = Holding { port: parent_at(s, p), own: false, claims: true };
+    let held = Holding { port: p, own: true, claims: true, taken: false };
+    let claimed = Holding { port: parent_at(s, p), own: false, claims: true, taken: false };
     least_meeting(s, space, held, claimed, false, best)
 }
 
