@@ -131,12 +131,25 @@ ask() {
     consult "$@"
 }
 
+# end_by SIGNAL: ends the parts of a command, `helpers` and the one begun last, and then this shell by the signal; by status 2 where bash
+# ignores it
+helpers=()
+end_by() {
+    trap - "$1"
+    kill ${helpers[@]+"${helpers[@]}"} "${!-}" 2>/dev/null
+    kill -s "$1" $$
+    exit 2
+}
+
 # ready NAME: has the program built, and opens descriptor 8, on which the parts of a command tell how they ended, each by a word:
-# bash can lose the status of a process substitution where there are several, one in a thousand
+# bash can lose the status of a process substitution where there are several, one in a thousand. From now on parts end with this shell.
 told=''
 ready() {
+    local signal
     has_program "$1"
     exec 8<> <(:)
+    # shellcheck disable=SC2064 # the signal is known now
+    for signal in INT TERM HUP; do trap "end_by $signal" "$signal"; done
 }
 
 # alongside COMMAND..: runs it on this process's standard input, gives its status, and ends it where this process is ended
@@ -154,23 +167,28 @@ read_part() {
     case $status in 0 | 141) ;; *) echo "$1" >&8 ;; esac
 }
 
-# consult NAME ARGS..: what the program says of the picture, in `answer`, and what the parts told, in `told`; one byte more than a
-# picture may have is read. What reads it, the program, and the `helpers` that a command has started end with this shell. Only a
-# program that ended well has answered.
-helpers=''
-consult() {
-    local reader program signal
-    exec 4< <(read_part picture 65537 <&3)
-    reader=$!
-    exec 5< <(alongside become "$@" <&4 3<&- 4<&- && echo answered >&8)
-    program=$!
-    exec 3<&- 4<&-
-    for signal in INT TERM HUP; do
-        # shellcheck disable=SC2064 # the processes are known now
-        trap "trap - $signal; kill $reader $program $helpers 2>/dev/null; kill -$signal \$\$" "$signal"
+# hear: all that comes on descriptor 5, in `answer`; a second at a time, since bash does not see a signal that comes just before it
+# waits until it has waited
+hear() {
+    local part status=129
+    answer=''
+    while [ "$status" -gt 128 ]; do
+        IFS= read -r -d '' -t 1 part <&5
+        status=$?
+        answer=$answer$part
     done
-    IFS= read -r -d '' answer <&5
     answer=${answer%$'\n'}
+}
+
+# consult NAME ARGS..: what the program says of the picture, in `answer`, and what the parts told, in `told`; one byte more than a
+# picture may have is read. Only a program that ended well has answered.
+consult() {
+    exec 4< <(read_part picture 65537 <&3)
+    helpers+=($!)
+    exec 5< <(alongside become "$@" <&4 3<&- 4<&- && echo answered >&8)
+    helpers+=($!)
+    exec 3<&- 4<&-
+    hear
     trap - INT TERM HUP
     echo . >&8
     IFS= read -r -d . told <&8

@@ -20,7 +20,7 @@ run() {
     open_patch "$patch"
     ready "$program"
     exec 6< <(read_part patch 131073 <&7 3<&-)
-    helpers=$!
+    helpers+=($!)
     exec 7<&-
     consult "$program" /dev/fd/6
     [[ $told != *patch* ]] || patch_unreadable "cannot be read"

@@ -366,7 +366,7 @@ ended_by() {
     set +m
     wait_for "$work/kit/child"
     kill -s "$1" "$pid"
-    wait "$pid" 2>/dev/null
+    status_of "$pid"
 }
 
 # that whatever rt has started ends with fpb, however fpb is ended, and that the next call builds anew
@@ -386,13 +386,35 @@ ended() {
 }
 
 # children PID..: the processes that these have started; lives PID: whether a process still runs
-children() { awk -v parents=" $* " 'index(parents, " " $4 " ") { printf "%s ", $1 }' /proc/[0-9]*/stat 2>/dev/null; }
-lives() { [ -r "/proc/$1/stat" ] && [ "$(awk '{ print $3 }' "/proc/$1/stat")" != Z ]; }
+children() { awk -v parents=" $* " 'index(parents, " " $4 " ") && $3 != "Z" { printf "%s ", $1 }' /proc/[0-9]*/stat 2>/dev/null; }
+lives() { [[ $(awk '{ print $3 }' "/proc/$1/stat" 2>/dev/null) == [!Z] ]]; }
 
-# waiting STATUS SIGNAL [-]: that what waits for the picture ends with fpb, too, which has started two processes and these one each;
-# the signal goes to fpb alone or, with -, to its process group, as from the keyboard
+# status_of PID: waits for a process of this shell, ends it after 20 seconds, and gives its status
+status_of() {
+    local try
+    for ((try = 0; try < 200; try++)); do
+        lives "$1" || break
+        sleep 0.1
+    done
+    [ "$try" -lt 200 ] || kill -KILL -- "-$1"
+    wait "$1"
+} 2>/dev/null
+
+# parts_of PID: what fpb has started, in `left`, once it waits for a picture: two processes, and one each of these, of which one is head
+parts_of() {
+    local try first
+    for ((try = 0; try < 300; try++)); do
+        first=$(children "$1")
+        read -ra left <<<"$first $(children "$first")"
+        [ ${#left[@]} -ne 4 ] || ! in_folder /proc grep -qsx head "${left[@]/%//comm}" || break
+        sleep 0.1
+    done
+}
+
+# waiting STATUS SIGNAL [-]: that what waits for the picture ends with fpb, too; the signal goes to fpb alone or, with -, to its
+# process group, as from the keyboard
 waiting() {
-    local pid try left first status
+    local pid left status
     rm -f "$work/fifo"
     mkfifo "$work/fifo"
     exec 8<>"$work/fifo"
@@ -400,20 +422,33 @@ waiting() {
     ./fpb report "$work/fifo" >/dev/null 2>&1 8<&- &
     pid=$!
     set +m
-    for ((try = 0; try < 300; try++)); do
-        first=$(children "$pid")
-        read -ra left <<<"$first $(children "$first")"
-        [ ${#left[@]} -lt 4 ] || break
-        sleep 0.1
-    done
+    parts_of "$pid"
     kill -s "$2" -- "${3:-}$pid"
-    wait "$pid" 2>/dev/null
+    status_of "$pid"
     status=$?
     counts "$([ "$status" -eq "$1" ] || echo "fpb ended by $2 has the status $status")"
     sleep 0.5
     counts "$([ ${#left[@]} -eq 4 ] || echo "fpb has started ${#left[@]} processes where it waits for a picture, and not 4")"
     counts "$(for pid in "${left[@]}"; do lives "$pid" && echo "process $pid goes on after fpb was ended by $2"; done)"
     exec 8<&-
+}
+
+# looking STATUS SIGNAL: that a signal of the keyboard ends fpb while it looks whether its program is built, by a stand-in for sha256sum
+looking() {
+    local pid status
+    rm -rf "$work/slow"
+    mkdir "$work/slow"
+    printf '#!/bin/sh\necho >"%s"\nexec sleep 600\n' "$work/slow/began" >"$work/slow/sha256sum"
+    chmod +x "$work/slow/sha256sum"
+    set -m
+    PATH=$work/slow:$PATH ./fpb report "$one" >"$work/out" 2>&1 &
+    pid=$!
+    set +m
+    wait_for "$work/slow/began"
+    kill -s "$2" -- "-$pid"
+    status_of "$pid"
+    status=$?
+    counts "$([ "$status" -eq "$1" ] && [ ! -s "$work/out" ] || echo "fpb ended by $2 early: $status, $(cat "$work/out")")"
 }
 
 # half_answers FPB EMULATOR: that only a whole answer has the status 0, by a stand-in for what runs the programs
@@ -511,7 +546,10 @@ waiting 143 TERM
 waiting 130 INT
 waiting 130 INT -
 waiting 129 HUP -
+waiting 2 QUIT
 waiting 2 QUIT -
+looking 130 INT
+looking 2 QUIT
 installed
 echo "$passed passed, $failed failed"
 [ "$failed" -eq 0 ]

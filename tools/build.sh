@@ -50,9 +50,10 @@ ends_with() {
 }
 
 # attended COMMAND..: runs it in a process group and with a temporary folder of its own, which both end when this shell does, and
-# gives its status; it may write to a terminal of which this shell is in the foreground
+# gives its status; it may write to a terminal of which this shell is in the foreground. The caller's traps are as before, afterwards.
 attended() {
-    local folder group status signal
+    local folder group status signal traps
+    traps=$(trap -p INT TERM HUP QUIT)
     folder=$(mktemp -d) && chmod 711 "$folder" || return 1
     set -m
     (
@@ -73,6 +74,7 @@ attended() {
     wait "$group"
     status=$?
     trap - INT TERM HUP QUIT
+    eval "$traps"
     rm -rf "$folder"
     return "$status"
 }
