@@ -56,13 +56,14 @@ pub enum End {
     Doubled(PortNo, PortNo),
 }
 
-// Where a packet is: at the root; below a port, come from above; below it, started there or come from below; below it
-// as a configuration request of Type 0 or of Type 1.
+// Where a packet is: at the root; below a port, come from above; below it, started there or come from below; below it,
+// redirected to the root; below it as a configuration request of Type 0 or of Type 1.
 #[derive(Clone, Copy)]
 pub enum Whereabouts {
     Root,
     Into(PortNo),
     From(PortNo),
+    Redirected(PortNo),
     Type0(PortNo),
     Type1(PortNo),
 }

@@ -3,12 +3,12 @@ use crate::ids::PortNo;
 
 // 0 root port, 1 switch upstream, 2 switch downstream.
 pub fn kind_at(s: &[u8], p: PortNo) -> u8 {
-    crate::lent::u8_at(s, 16 + 56 * (p.0 as usize))
+    crate::lent::u8_at(s, crate::registers::record_in(s, p))
 }
 
 // The port above, 255 for a root port.
 pub fn parent_at(s: &[u8], p: PortNo) -> PortNo {
-    PortNo(crate::lent::u8_at(s, 16 + 56 * (p.0 as usize) + 1))
+    PortNo(crate::lent::u8_at(s, crate::registers::record_in(s, p) + 1))
 }
 
 // Whether one of the ports below number n is a child of q.

@@ -74,7 +74,7 @@ pub fn claims(s: &[u8], p: PortNo, t: Target) -> bool {
 
 // The ID of port p itself.
 pub fn own_id(s: &[u8], p: PortNo) -> Rid {
-    Rid(crate::lent::u16_at(s, 16 + 56 * (p.0 as usize) + 2))
+    Rid(crate::lent::u16_at(s, crate::registers::record_in(s, p) + 2))
 }
 
 // Whether the target is the ID of port p itself.
@@ -99,4 +99,9 @@ pub fn claims_video(s: &[u8], p: PortNo) -> bool {
 // Whether port p forwards with ARI.
 pub fn with_ari_at(s: &[u8], p: PortNo) -> bool {
     crate::registers::with_ari(port_at(s, p))
+}
+
+// Whether port p redirects the requests of its device.
+pub fn with_redirect_at(s: &[u8], p: PortNo) -> bool {
+    crate::registers::with_redirect(port_at(s, p))
 }

@@ -1,6 +1,5 @@
 // The walk call: where a packet goes, from the host or from a device port.
 use crate::chassis::Packet;
-use crate::chassis::Whereabouts;
 use crate::ids::PortNo;
 use crate::ids::Rid;
 use crate::ids::Target;
@@ -47,14 +46,6 @@ fn asked_wrongly(s: &[u8], n: u8, kind: u32, start: u32, target: u64) -> bool {
     (2 < kind) | id_too_large(kind, target) | !is_start(s, n, start)
 }
 
-// Where a packet is that starts there: 255 is the root.
-fn start_of(start: u32) -> Whereabouts {
-    if start == 255 {
-        return Whereabouts::Root;
-    }
-    Whereabouts::From(PortNo(start as u8))
-}
-
 // The answer of a call that is refused: nothing is crossed.
 fn refused(r: Refusal) -> WalkAnswer {
     WalkAnswer { outcome: Outcome::Refused(r), path: Path::new() }
@@ -77,5 +68,7 @@ pub fn walk(s: &[u8], kind: u32, start: u32, target: u64) -> WalkAnswer {
     if asked_wrongly(s, n, kind, start, target) {
         return refused(number_16());
     }
-    ended(crate::routes::walk_from(s, n, packet_of(kind, target), start_of(start)))
+    let packet = packet_of(kind, target);
+    let from = crate::routes::starts_at(s, packet, PortNo(start as u8));
+    ended(crate::routes::walk_from(s, n, packet, from))
 }

@@ -1,7 +1,9 @@
 // Where the vectors of each port lie (number 10), and each vector as a part of the picture.
 use crate::ids::PortNo;
 use crate::picture::Culprit;
+use crate::registers::edition_of;
 use crate::registers::port_at;
+use crate::registers::record_at;
 use crate::registers::sizes_of;
 use crate::registers::vector_bytes;
 use crate::registers::vectors_start;
@@ -15,7 +17,7 @@ fn all_bytes(f: Fpb) -> u64 {
 
 // The lowest port whose vectors start elsewhere than at the running offset, or 255 if they do not end at the total.
 pub fn misplaced(s: &[u8], n: u8) -> Culprit {
-    let mut offset: u64 = 16 + 56 * (n as u64);
+    let mut offset: u64 = record_at(edition_of(s), n as usize) as u64;
     let mut p: u8 = 0;
     while p < n {
         let port = port_at(s, PortNo(p));

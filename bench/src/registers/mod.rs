@@ -60,6 +60,24 @@ pub struct Port {
     pub bridge: Bridge,
     pub fpb: Fpb,
     pub vectors_at: u32,
+    pub acs_control: u16,
+    pub zeros: u16,
+}
+
+// The edition that the header names.
+pub fn edition_of(s: &[u8]) -> u16 {
+    u16_at(s, 0)
+}
+
+// Where the record of port p starts; where all records end, if p is the count of ports.
+pub fn record_at(edition: u16, p: usize) -> usize {
+    let record_bytes = if edition == 2 { 60 } else { 56 };
+    16 + record_bytes * p
+}
+
+// Where the record of port p of a picture starts.
+pub fn record_in(s: &[u8], p: PortNo) -> usize {
+    record_at(edition_of(s), p.0 as usize)
 }
 
 // The Type 1 header registers of the record that starts at r.
@@ -80,7 +98,7 @@ fn bridge_at(s: &[u8], r: usize) -> Bridge {
 
 // The Type 1 header registers of port p as far as they enable anything: Command and Bridge Control. The others are left 0.
 pub fn enables_of(s: &[u8], p: PortNo) -> Bridge {
-    let r = 16 + 56 * p.0 as usize;
+    let r = record_in(s, p);
     Bridge {
         command: u16_at(s, r + 4),
         secondary: 0,
@@ -107,9 +125,18 @@ fn fpb_at(s: &[u8], r: usize) -> Fpb {
     }
 }
 
+// A field that records of 60 bytes alone have, 0 elsewhere.
+fn in_edition_2(s: &[u8], edition: u16, at: usize) -> u16 {
+    if edition == 2 {
+        return u16_at(s, at);
+    }
+    0
+}
+
 // The record of port p.
 pub fn port_at(s: &[u8], p: PortNo) -> Port {
-    let r = 16 + 56 * (p.0 as usize);
+    let edition = edition_of(s);
+    let r = record_at(edition, p.0 as usize);
     Port {
         kind: u8_at(s, r),
         parent: PortNo(u8_at(s, r + 1)),
@@ -118,13 +145,15 @@ pub fn port_at(s: &[u8], p: PortNo) -> Port {
         bridge: bridge_at(s, r),
         fpb: fpb_at(s, r),
         vectors_at: u32_at(s, r + 52),
+        acs_control: in_edition_2(s, edition, r + 56),
+        zeros: in_edition_2(s, edition, r + 58),
     }
 }
 
 // The FPB registers of port p as far as its vectors' sizes hang on them: Capabilities. The others are left 0.
 pub fn sizes_of(s: &[u8], p: PortNo) -> Fpb {
     Fpb {
-        capabilities: u32_at(s, 16 + 56 * p.0 as usize + 28),
+        capabilities: u32_at(s, record_in(s, p) + 28),
         rid_control_1: 0,
         rid_control_2: 0,
         mem_low_control: 0,
@@ -135,5 +164,5 @@ pub fn sizes_of(s: &[u8], p: PortNo) -> Fpb {
 
 // Where the vectors of port p start.
 pub fn vectors_start(s: &[u8], p: PortNo) -> u32 {
-    u32_at(s, 16 + 56 * p.0 as usize + 52)
+    u32_at(s, record_in(s, p) + 52)
 }

@@ -55,11 +55,17 @@ pub fn settings_wrong(p: Port) -> bool {
         | mechanism_wrong(f, Mechanism::Low)
         | mechanism_wrong(f, Mechanism::High)
         | memory_bits_wrong(b)
+        | !(p.zeros == 0)
 }
 
 // ARI Forwarding Enable, which means nothing on an upstream port.
 pub fn with_ari(p: Port) -> bool {
     !(p.kind == 1) & ((p.device_control_2 >> 5) % 2 == 1)
+}
+
+// P2P Request Redirect, bit 2 of ACS Control.
+pub fn with_redirect(p: Port) -> bool {
+    (p.acs_control >> 2) % 2 == 1
 }
 
 // How many targets an entry stands for.

@@ -1,4 +1,5 @@
 // Where a packet goes: the rules of the walk on the bytes of a picture that reads, repeated until they come to an end.
+mod starts;
 mod steps;
 
 use crate::chassis::End;
@@ -6,6 +7,7 @@ use crate::chassis::Packet;
 use crate::chassis::Step;
 use crate::chassis::Whereabouts;
 use crate::paths::Path;
+pub use starts::starts_at;
 
 // The ports crossed and the end.
 #[derive(Clone, Copy)]

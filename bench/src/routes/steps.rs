@@ -65,13 +65,15 @@ fn device_or(s: &[u8], n: u8, q: PortNo, function: u8) -> Step {
     }
 }
 
-// Where a packet is that crossed a port upward to a place.
-fn come_to(place: PortNo) -> Whereabouts {
+// Where a packet is that started at a place, or crossed a port upward to it.
+pub fn come_to(redirected: bool, place: PortNo) -> Whereabouts {
     if place.0 == 255 {
-        Whereabouts::Root
-    } else {
-        Whereabouts::From(place)
+        return Whereabouts::Root;
     }
+    if redirected {
+        return Whereabouts::Redirected(place);
+    }
+    Whereabouts::From(place)
 }
 
 // Rule 5.
@@ -79,7 +81,7 @@ fn upward(s: &[u8], t: Target, q: PortNo) -> Step {
     if crate::claims::claims(s, q, t) {
         Step::Stop(End::Unsupported(q))
     } else {
-        Step::Cross(q, come_to(crate::trees::parent_at(s, q)))
+        Step::Cross(q, come_to(false, crate::trees::parent_at(s, q)))
     }
 }
 
@@ -113,6 +115,11 @@ fn from_below(s: &[u8], n: u8, packet: Packet, q: PortNo) -> Step {
     }
 }
 
+// Redirected: the port is crossed upward, whatever it and its siblings claim.
+fn towards_root(s: &[u8], q: PortNo) -> Step {
+    Step::Cross(q, come_to(true, crate::trees::parent_at(s, q)))
+}
+
 // Below a port that made the request Type 0: own IDs alone are looked at.
 fn under_type0(s: &[u8], n: u8, t: Target, q: PortNo) -> Step {
     match lowest_at(s, n, q, t, Regard::Own) {
@@ -137,6 +144,7 @@ pub fn step(s: &[u8], n: u8, packet: Packet, whereabouts: Whereabouts) -> Step {
         Whereabouts::Root => at_root(s, n, packet),
         Whereabouts::Into(q) => from_above(s, n, packet, q),
         Whereabouts::From(q) => from_below(s, n, packet, q),
+        Whereabouts::Redirected(q) => towards_root(s, q),
         Whereabouts::Type0(q) => under_type0(s, n, target_of(packet), q),
         Whereabouts::Type1(q) => under_type1(s, n, target_of(packet), q),
     }

@@ -27,6 +27,7 @@ pub record Alike (c d : Chassis) : Type 0 where
   pub trees : AlikeTrees (c .tree) (d .tree)
   pub ownId : (p : ℕ) → p < c .tree .count → c .ownId p ≡ d .ownId p
   pub ari : (p : ℕ) → p < c .tree .count → c .ari p ≡ d .ari p
+  pub redirect : (p : ℕ) → p < c .tree .count → c .redirect p ≡ d .redirect p
   pub decoders : (p : ℕ) → p < c .tree .count → (t : Target) → c .decoders p t ≡ d .decoders p t
   pub claims : (p : ℕ) → p < c .tree .count → (t : Target) → c .claims p t ≡ d .claims p t
   pub conversion : (p : ℕ) → p < c .tree .count → (t : Target) → c .conversion p t ≡ d .conversion p t

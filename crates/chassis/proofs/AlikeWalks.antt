@@ -1,7 +1,8 @@
 -- Two chassis that agree on all the ports that there are: a packet goes the same way through both.
 use Prim.Native.Nat.{ℕ, zero, suc, _<_}
-use mathlib.Core.Bool.{Bool, _&&_}
+use mathlib.Core.Bool.{Bool, not, _&&_}
 use mathlib.Core.List.{List}
+use mathlib.Core.Logic.{_⊎_, inl, inr}
 use mathlib.Core.Path.{_≡_, refl, sym, _∙_, ap, ap₂}
 use native.Mathlib.Omega.{arith}
 use Rattle.ids.specs.declared.PortNo.{PortNo}
@@ -16,13 +17,14 @@ use Rattle.chassis.specs.declared.Packet.the-variants.{Plain, Config}
 use Rattle.chassis.specs.declared.Step.{Step}
 use Rattle.chassis.specs.declared.Step.the-variants.{Stop}
 use Rattle.chassis.specs.declared.Whereabouts.{Whereabouts}
-use Rattle.chassis.specs.declared.Whereabouts.the-variants.{Root, Into, From, Type0, Type1}
+use Rattle.chassis.specs.declared.Whereabouts.the-variants.{Root, Into, From, Redirected, Type0, Type1}
 use Rattle.chassis.specs.Chassis.{Chassis, isOwn, holds, withPort, lowestTwo, passesAt, lowestAt}
 use Rattle.chassis.specs.Tree.{root}
-use Rattle.chassis.specs.Walk.{targetOf, functionNumber, decided, decides, downward, byHolders, soleHolder, atPlace, deviceOr, upward, fromBelow, underType0, underType1, next, Walk, ends, goes}
+use Rattle.chassis.specs.Walk.{targetOf, functionNumber, decided, decides, downward, byHolders, soleHolder, atPlace, deviceOr, upward, fromBelow, comeTo, towardsRoot, isRedirected, startsAt, underType0, underType1, next, Walk, ends, goes}
 use Rattle.chassis.proofs.Alike.{Alike, own-alike, holds-alike}
 use Rattle.chassis.proofs.AlikeTrees.{Agree, stands-alike, device-alike}
 use Rattle.chassis.proofs.Ports.{Says, lowestTwo-says}
+use Rattle.chassis.proofs.Starts.{comeTo-root}
 use Rattle.chassis.proofs.Steps.{IsPort, Within, crossing-goes}
 use Rattle.chassis.proofs.Tree.{Sane}
 
@@ -94,12 +96,28 @@ module _ (c d : Chassis) (alike : Alike c d) where
   from-below-alike (Plain t) q l = at-place-alike (Plain t) (q .0) (upward-alike t q l)
   from-below-alike (Config rid) q l = refl
 
+  towards-root-alike : (q : PortNo) → IsPort c q → towardsRoot c q ≡ towardsRoot d q
+  unfolding towardsRoot
+  towards-root-alike q l = rw (alike .trees .parent (q .0) l)
+
+  redirected-alike : (packet : Packet) (p : ℕ) → p < c .tree .count → isRedirected c packet p ≡ isRedirected d packet p
+  unfolding isRedirected
+  redirected-alike (Plain (Addr a)) p l = rw (alike .redirect p l, alike .claims p l (Addr a))
+  redirected-alike (Plain (Id rid)) p l = refl
+  redirected-alike (Config rid) p l = refl
+
+  -- a packet starts alike in both
+  pub starts-alike : (packet : Packet) (p : ℕ) → (p ≡ root) ⊎ (p < c .tree .count) → startsAt c packet p ≡ startsAt d packet p
+  starts-alike packet p (inl top) = rw (top, comeTo-root (isRedirected c packet root), comeTo-root (isRedirected d packet root))
+  starts-alike packet p (inr l) = ap (λ (b : Bool). comeTo b p) (redirected-alike packet p l)
+
   -- the rules give the same step in both
   pub next-alike : (packet : Packet) (w : Whereabouts) → Within c w → next c packet w ≡ next d packet w
   unfolding next underType0 underType1
   next-alike packet Root l = at-place-alike packet root refl
   next-alike packet (Into q) l = at-place-alike packet (q .0) (device-or-alike q 0)
   next-alike packet (From q) l = from-below-alike packet q l
+  next-alike packet (Redirected q) l = towards-root-alike q l
   next-alike packet (Type0 q) l =
       place-alike (q .0) (isOwn c (targetOf packet)) (isOwn d (targetOf packet)) (λ p. Stop (Function p)) (λ p. Stop (Function p))
       (own-alike c d alike (targetOf packet)) (λ p m. refl)

@@ -14,16 +14,18 @@ use Rattle.chassis.specs.declared.End.the-variants.{Unsupported}
 use Rattle.chassis.specs.declared.Holders.the-variants.{Both}
 use Rattle.chassis.specs.declared.Packet.the-variants.{Plain}
 use Rattle.chassis.specs.declared.Whereabouts.{Whereabouts}
-use Rattle.chassis.specs.declared.Whereabouts.the-variants.{Root, Into, From, Type0, Type1}
+use Rattle.chassis.specs.declared.Whereabouts.the-variants.{Root}
 use Rattle.chassis.specs.Chassis.{Chassis, holds, lowestAt}
 use Rattle.chassis.specs.Tree.{root, isDevicePort}
-use Rattle.chassis.specs.Walk.{Walk}
+use Rattle.chassis.specs.Walk.{isRedirected, startsAt, Walk}
 use Rattle.chassis.specs.OneEnd.{NoTwoHolders, Comes, OneEnd, placeOf}
 use Rattle.chassis.proofs.Tree.{Sane}
 use Rattle.chassis.proofs.Steps.{left-most, Within}
 use Rattle.chassis.proofs.Walks.{walk-one, walk-exists, walk-short}
 use Rattle.chassis.proofs.Clean.{Clean, never-two}
-use Rattle.chassis.proofs.Homeward.{same-end, own-device-refused, device-port-below}
+use Rattle.chassis.proofs.Homeward.{device-port-below}
+use Rattle.chassis.proofs.Starts.{comeTo-within}
+use Rattle.chassis.proofs.TowardsRoot.{start-same-end, own-start-refused}
 
 module _ (c : Chassis) (t : Target) (sane : Sane (c .tree)) (clean : Clean c t) where
   no-two : (w : Whereabouts) → NoTwoHolders c t w
@@ -39,13 +41,14 @@ module _ (c : Chassis) (t : Target) (sane : Sane (c .tree)) (clean : Clean c t) 
       }
 
   from-device-too : (e : End) (path : List PortNo) → Walk c (Plain t) Root path e → (d : PortNo)
-      → isDevicePort (c .tree) (d .0) ≡ true → c .claims (d .0) t ≡ false → Comes c t (From d) e
+      → isDevicePort (c .tree) (d .0) ≡ true → c .claims (d .0) t ≡ false → Comes c t (startsAt c (Plain t) (d .0)) e
   from-device-too e path k d device unclaimed =
-      let below = device-port-below c (d .0) device in
-      let own = walk-exists c (Plain t) sane (From d) below in
-      let hosts = same-end c t sane clean d device unclaimed (own .walk) in
+      let from = startsAt c (Plain t) (d .0) in
+      let below : Within c from = comeTo-within c sane (d .0) (device-port-below c (d .0) device) (isRedirected c (Plain t) (d .0)) in
+      let own = walk-exists c (Plain t) sane from below in
+      let hosts = start-same-end c t sane clean d device unclaimed (own .walk) in
       let same = walk-one (hosts .walk) k .1 in
-      comes (own .path) below (subst (λ (f : End). Walk c (Plain t) (From d) (own .path) f) same (own .walk))
+      comes (own .path) below (subst (λ (f : End). Walk c (Plain t) from (own .path) f) same (own .walk))
 
   pub clean-one-end : OneEnd c t
   clean-one-end =
@@ -54,5 +57,5 @@ module _ (c : Chassis) (t : Target) (sane : Sane (c .tree)) (clean : Clean c t) 
         end = host .end;
         from-host = comes (host .path) tt (host .walk);
         from-device = from-device-too (host .end) (host .path) (host .walk);
-        own-device = λ d device claimed. (own-device-refused c t d device claimed, no-two (From d));
+        own-device = λ d device claimed. (own-start-refused c t sane d device claimed, no-two (startsAt c (Plain t) (d .0)));
       }

@@ -116,7 +116,7 @@ module _ (c : Chassis) (t : Target) (sane : Sane (c .tree)) (clean : Clean c t) 
 
   -- so it crosses that port upward
   goes-up : (q : PortNo) → q .0 < c .tree .count → c .claims (q .0) t ≡ false
-      → next c (Plain t) (From q) ≡ Cross q (comeTo (c .tree .parent (q .0)))
+      → next c (Plain t) (From q) ≡ Cross q (comeTo false (c .tree .parent (q .0)))
   unfolding next fromBelow upward byHolders
   goes-up q l unclaimed = rw (nobody-below q l unclaimed) (rw unclaimed)
 
@@ -128,7 +128,7 @@ module _ (c : Chassis) (t : Target) (sane : Sane (c .tree)) (clean : Clean c t) 
 
   -- where it claims the target, the walk turns downward; else it goes on above
   turned-or-above : (q : ℕ) → q < c .tree .count
-      → ((path : List PortNo) (e : End) → Walk c (Plain t) (comeTo (c .tree .parent q)) path e → FromHost c t e)
+      → ((path : List PortNo) (e : End) → Walk c (Plain t) (comeTo false (c .tree .parent q)) path e → FromHost c t e)
       → BelowFromHost q
   turned-or-above q l above no-device path e k = go (c .claims q t) refl
     where
@@ -142,17 +142,17 @@ module _ (c : Chassis) (t : Target) (sane : Sane (c .tree)) (clean : Clean c t) 
   unfolding comeTo
   below-at-root q l top = turned-or-above q l above
     where
-      above : (path : List PortNo) (e : End) → Walk c (Plain t) (comeTo (c .tree .parent q)) path e → FromHost c t e
+      above : (path : List PortNo) (e : End) → Walk c (Plain t) (comeTo false (c .tree .parent q)) path e → FromHost c t e
       above path e k =
           let at-root = root-port-parent (c .tree) sane q l top in
-          record { path = path; walk = subst (λ (place : ℕ). Walk c (Plain t) (comeTo place) path e) at-root k }
+          record { path = path; walk = subst (λ (place : ℕ). Walk c (Plain t) (comeTo false place) path e) at-root k }
 
   below-below : (q : ℕ) → q < c .tree .count → (c .tree .kind q ≡ rootPort → ⊥) → BelowFromHost (c .tree .parent q)
       → BelowFromHost q
   unfolding comeTo
   below-below q l lower up = turned-or-above q l above
     where
-      above : (path : List PortNo) (e : End) → Walk c (Plain t) (comeTo (c .tree .parent q)) path e → FromHost c t e
+      above : (path : List PortNo) (e : End) → Walk c (Plain t) (comeTo false (c .tree .parent q)) path e → FromHost c t e
       above path e k =
           let less = other-parent (c .tree) sane q l lower in
           let port = ne-eqb (c .tree .parent q) root (λ at-root. omega (arith, sane .few)) in

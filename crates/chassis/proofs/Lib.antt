@@ -7,6 +7,7 @@ pub mod CheckLaws
 pub mod LeastTarget
 pub mod Clean
 pub mod Starts
+pub mod TowardsRoot
 pub mod Ways
 pub mod Homeward
 pub mod Demand3

@@ -19,11 +19,11 @@ use Rattle.chassis.specs.declared.Packet.the-variants.{Plain, Config}
 use Rattle.chassis.specs.declared.Step.{Step}
 use Rattle.chassis.specs.declared.Step.the-variants.{Stop, Cross}
 use Rattle.chassis.specs.declared.Whereabouts.{Whereabouts}
-use Rattle.chassis.specs.declared.Whereabouts.the-variants.{Root, Into, From, Type0, Type1}
+use Rattle.chassis.specs.declared.Whereabouts.the-variants.{Root, Into, From, Redirected, Type0, Type1}
 use Rattle.ids.specs.Ids.{portNo}
 use Rattle.chassis.specs.Chassis.{Chassis, isOwn, holds, passesAt, lowestAt}
 use Rattle.chassis.specs.Tree.{root, isDevicePort}
-use Rattle.chassis.specs.Walk.{targetOf, decided, decides, downward, byHolders, soleHolder, deviceOr, comeTo, upward, fromBelow, underType0, underType1, next}
+use Rattle.chassis.specs.Walk.{targetOf, decided, decides, downward, byHolders, soleHolder, deviceOr, comeTo, upward, fromBelow, towardsRoot, underType0, underType1, next}
 use Rattle.chassis.proofs.Ports.{Says, SoleBelow, lowestTwo-says, passesAt-true}
 use Rattle.chassis.proofs.Tree.{Sane, depth, depth-most, depth-parent, parent-lower}
 
@@ -32,6 +32,7 @@ abbrev pub left : Chassis → Whereabouts → ℕ
 left c Root = 16
 left c (Into q) = 16 - depth (c .tree) (q .0)
 left c (From q) = 16 + depth (c .tree) (q .0)
+left c (Redirected q) = 16 + depth (c .tree) (q .0)
 left c (Type0 q) = 16 - depth (c .tree) (q .0)
 left c (Type1 q) = 16 - depth (c .tree) (q .0)
 
@@ -39,6 +40,7 @@ pub left-most : (c : Chassis) (w : Whereabouts) → left c w ≤ 32
 left-most c Root = omega arith
 left-most c (Into q) = omega arith
 left-most c (From q) = omega (arith, depth-most (c .tree) (q .0))
+left-most c (Redirected q) = omega (arith, depth-most (c .tree) (q .0))
 left-most c (Type0 q) = omega arith
 left-most c (Type1 q) = omega arith
 
@@ -50,6 +52,7 @@ abbrev pub Within : Chassis → Whereabouts → Type 0
 Within c Root = Unit {0}
 Within c (Into q) = IsPort c q
 Within c (From q) = IsPort c q
+Within c (Redirected q) = IsPort c q
 Within c (Type0 q) = IsPort c q
 Within c (Type1 q) = IsPort c q
 
@@ -132,25 +135,30 @@ module _ (c : Chassis) (sane : Sane (c .tree)) where
       (λ p s. one p (crossable most place test p room s))
       nobody
 
-  comeTo-goes : (q : PortNo) → IsPort c q → Nearer c (16 + depth (c .tree) (q .0)) q (comeTo (c .tree .parent (q .0)))
+  -- a port crossed upward, by a packet that is redirected or not
+  comeTo-goes : (redirected : Bool) (q : PortNo) → IsPort c q
+      → Nearer c (16 + depth (c .tree) (q .0)) q (comeTo redirected (c .tree .parent (q .0)))
   unfolding comeTo
-  comeTo-goes q l = go (eqb (c .tree .parent (q .0)) root) refl
+  comeTo-goes redirected q l = go (eqb (c .tree .parent (q .0)) root) redirected refl
     where
-      go : (b : Bool) → eqb (c .tree .parent (q .0)) root ≡ b
-          → Nearer c (16 + depth (c .tree) (q .0)) q (cond b Root (From (portNo (c .tree .parent (q .0)))))
-      go true e = record { crossed = l; within = tt; fewer = omega (arith, depth-parent (c .tree) sane (q .0) l) }
-      go false e =
-          let lower = parent-lower (c .tree) sane (q .0) l (eqb-false _ _ e) in
-          record { crossed = l; within = omega arith; fewer = omega (arith, depth-parent (c .tree) sane (q .0) l) }
+      lower : eqb (c .tree .parent (q .0)) root ≡ false → c .tree .parent (q .0) < c .tree .count
+      lower e = let less = parent-lower (c .tree) sane (q .0) l (eqb-false _ _ e) in omega arith
+
+      go : (b up : Bool) → eqb (c .tree .parent (q .0)) root ≡ b
+          → Nearer c (16 + depth (c .tree) (q .0)) q
+          (cond b Root (cond up (Redirected (portNo (c .tree .parent (q .0)))) (From (portNo (c .tree .parent (q .0))))))
+      go true up e = record { crossed = l; within = tt; fewer = omega (arith, depth-parent (c .tree) sane (q .0) l) }
+      go false true e = record { crossed = l; within = lower e; fewer = omega (arith, depth-parent (c .tree) sane (q .0) l) }
+      go false false e = record { crossed = l; within = lower e; fewer = omega (arith, depth-parent (c .tree) sane (q .0) l) }
 
   upward-goes : (t : Target) (q : PortNo) → IsPort c q → Goes c (16 + depth (c .tree) (q .0)) (upward c t q)
   unfolding upward
   upward-goes t q l = go (c .claims (q .0) t)
     where
       go : (b : Bool)
-          → Goes c (16 + depth (c .tree) (q .0)) (cond b (Stop (Unsupported q)) (Cross q (comeTo (c .tree .parent (q .0)))))
+          → Goes c (16 + depth (c .tree) (q .0)) (cond b (Stop (Unsupported q)) (Cross q (comeTo false (c .tree .parent (q .0)))))
       go true = l
-      go false = comeTo-goes q l
+      go false = comeTo-goes false q l
 
   fromBelow-goes : (packet : Packet) (q : PortNo) → IsPort c q → Goes c (left c (From q)) (fromBelow c packet q)
   unfolding fromBelow
@@ -161,13 +169,14 @@ module _ (c : Chassis) (sane : Sane (c .tree)) where
 
   -- wherever the packet is
   pub next-goes : (packet : Packet) (w : Whereabouts) → Within c w → Goes c (left c w) (next c packet w)
-  unfolding next underType0 underType1
+  unfolding next towardsRoot underType0 underType1
   next-goes packet Root l =
       atPlace-goes _ root (holds c (targetOf packet)) (soleHolder c packet) (Stop Host) (omega arith) (soleHolder-goes c _ packet) tt
   next-goes packet (Into q) l =
       atPlace-goes _ (q .0) (holds c (targetOf packet)) (soleHolder c packet) _ (omega arith) (soleHolder-goes c _ packet)
       (deviceOr-goes c _ q 0 l)
   next-goes packet (From q) l = fromBelow-goes packet q l
+  next-goes packet (Redirected q) l = comeTo-goes true q l
   next-goes packet (Type0 q) l =
       atPlace-goes _ (q .0) (isOwn c (targetOf packet)) (λ p. Stop (Function p)) _ (omega arith) (λ p h. h .0) (deviceOr-goes c _ q _ l)
   next-goes packet (Type1 q) l =

@@ -1,4 +1,5 @@
--- A chassis as the walk and the check see it: a tree of ports, what each claims, and what each makes of a configuration request.
+-- A chassis as the walk and the check see it: a tree of ports, what each claims, what each makes of a configuration request, and
+-- which redirect what their device sends.
 -- It is made from a picture by one definition; nothing that speaks of a chassis speaks of bytes.
 use Prim.Native.Nat.{ℕ, zero, suc, _^_}
 use mathlib.Core.Bool.{Bool, true, false, _&&_, _||_}
@@ -19,6 +20,7 @@ pub record Chassis : Type 0 where
   pub tree : Tree
   pub ownId : ℕ → ℕ
   pub ari : ℕ → Bool
+  pub redirect : ℕ → Bool
   pub decoders : ℕ → Target → Decoders
   pub claims : ℕ → Target → Bool
   pub conversion : ℕ → Target → Conversion

@@ -19,6 +19,7 @@ abbrev pub placeOf : Whereabouts → ℕ
 placeOf Root = root
 placeOf (Into q) = q .0
 placeOf (From q) = q .0
+placeOf (Redirected q) = q .0
 placeOf (Type0 q) = q .0
 placeOf (Type1 q) = q .0
 
@@ -39,6 +40,7 @@ pub record Comes (c : Chassis) (t : Target) (w : Whereabouts) (e : End) : Type 0
 pub record OneEnd (c : Chassis) (t : Target) : Type 0 where
   pub end : End
   pub from-host : Comes c t Root end
-  pub from-device : (d : PortNo) → isDevicePort (c .tree) (d .0) ≡ true → c .claims (d .0) t ≡ false → Comes c t (From d) end
+  pub from-device : (d : PortNo) → isDevicePort (c .tree) (d .0) ≡ true → c .claims (d .0) t ≡ false
+      → Comes c t (startsAt c (Plain t) (d .0)) end
   pub own-device : (d : PortNo) → isDevicePort (c .tree) (d .0) ≡ true → c .claims (d .0) t ≡ true
-      → Walk c (Plain t) (From d) [] (Unsupported d) × NoTwoHolders c t (From d)
+      → Walk c (Plain t) (startsAt c (Plain t) (d .0)) [] (Unsupported d) × NoTwoHolders c t (startsAt c (Plain t) (d .0))

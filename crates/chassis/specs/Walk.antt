@@ -46,12 +46,26 @@ deviceOr c q function = cond (isDevicePort (c .tree) (q .0)) (Stop (Device q fun
 
 -- where a packet is that started at a place, or crossed a port upward to it: "A packet starts at the root (start 255) or below a
 -- device port."
-unfoldable pub comeTo : ℕ → Whereabouts
-comeTo place = cond (eqb place root) Root (From (portNo place))
+unfoldable pub comeTo : Bool → ℕ → Whereabouts
+comeTo redirected place = cond (eqb place root) Root (cond redirected (Redirected (portNo place)) (From (portNo place)))
+
+-- 02, Item 8: "If bit 2 (P2P Request Redirect) is set at the starting device port, and that port does not claim the address, an
+-- address-routed packet first crosses every port up to the root .. IDs are not affected."
+unfoldable pub isRedirected : Chassis → Packet → ℕ → Bool
+isRedirected c (Plain (Addr a)) start = c .redirect start && not (c .claims start (Addr a))
+isRedirected c (Plain (Id rid)) start = false
+isRedirected c (Config rid) start = false
+
+abbrev pub startsAt : Chassis → Packet → ℕ → Whereabouts
+startsAt c packet start = comeTo (isRedirected c packet start) start
+
+-- ".. first crosses every port up to the root and then goes as from the host": nothing is looked at on the way
+unfoldable pub towardsRoot : Chassis → PortNo → Step
+towardsRoot c q = Cross q (comeTo true (c .tree .parent (q .0)))
 
 -- "5. none, started or come from below: if the place's port claims the target, Unsupported Request at it, else cross it upward"
 unfoldable pub upward : Chassis → Target → PortNo → Step
-upward c t q = cond (c .claims (q .0) t) (Stop (Unsupported q)) (Cross q (comeTo (c .tree .parent (q .0))))
+upward c t q = cond (c .claims (q .0) t) (Stop (Unsupported q)) (Cross q (comeTo false (c .tree .parent (q .0))))
 
 -- started or come from below; "A configuration request from a device port is an Unsupported Request there with no crossing."
 unfoldable pub fromBelow : Chassis → Packet → PortNo → Step
@@ -74,6 +88,7 @@ unfoldable pub next : Chassis → Packet → Whereabouts → Step
 next c packet Root = atPlace c packet root (Stop Host)
 next c packet (Into q) = atPlace c packet (q .0) (deviceOr c q 0)
 next c packet (From q) = fromBelow c packet q
+next c packet (Redirected q) = towardsRoot c q
 next c packet (Type0 q) = underType0 c (targetOf packet) q
 next c packet (Type1 q) = underType1 c (targetOf packet) q
 

@@ -7,7 +7,7 @@ use mathlib.Core.Path.{_≡_, refl, sym, ap}
 use Rattle.chassis.proofs.Alike.{Alike}
 use Rattle.registers.specs.declared.Port.{Port}
 use Rattle.registers.specs.Record.{portAt}
-use Rattle.registers.specs.Rules.{withAri}
+use Rattle.registers.specs.Rules.{withAri, withRedirect}
 use Rattle.trees.specs.Trees.{countOf}
 use Rattle.picture.specs.declared.Header.{Header}
 use Rattle.picture.specs.Layout.{vectorOf}
@@ -41,6 +41,7 @@ module _ (s patch : List ℕ) (h : Header) (a : Accepted s patch h) where
         trees = trees-patched s patch h a;
         ownId = λ p l. ap (λ (x : Port). x .«own_id» .0) (same-port p l);
         ari = λ p l. ap withAri (same-port p l);
+        redirect = λ p l. ap withRedirect (same-port p l);
         decoders = λ p l t i. decodersOf (same-port p l i) (same-vectors p l i) t;
         claims = λ p l t i. claimsTarget (same-port p l i) (same-vectors p l i) t;
         conversion = λ p l t i. convertedTarget (same-port p l i) (same-vectors p l i) t;

@@ -17,6 +17,7 @@ withoutVideo c =
       tree = c .tree;
       ownId = c .ownId;
       ari = c .ari;
+      redirect = c .redirect;
       decoders = c .decoders;
       claims = λ p t. besideVideo (c .decoders p t);
       conversion = c .conversion;

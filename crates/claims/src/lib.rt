@@ -36,7 +36,7 @@ ghost use mathlib.Core.Path.{_≡_};
 ghost use Rattle.ids.specs.declared.Target.the-variants.{Addr};
 ghost use Rattle.chassis.specs.Chassis.{isOwn, holds, holdOf};
 ghost use Rattle.registers.specs.Record.{portAt};
-ghost use Rattle.registers.specs.Rules.{withAri};
+ghost use Rattle.registers.specs.Rules.{withAri, withRedirect};
 ghost use Rattle.patches.specs.Halves.{vectorOver};
 ghost use Rattle.claims.specs.Decoders.{noDecoders, idDecoders, addressDecoders};
 ghost use Rattle.claims.specs.Over.{chassisOver};
@@ -147,4 +147,11 @@ pub fn with_ari_at(s: &[u8], p: PortNo) -> bool
     ensures { λ r. ⌜ r ≡ withAri (portAt (now (s .entry)) (p .0)) ⌝ }
 {
     registers::with_ari(port_at(s, p))
+}
+
+// Whether port p redirects the requests of its device.
+pub fn with_redirect_at(s: &[u8], p: PortNo) -> bool
+    ensures { λ r. ⌜ r ≡ withRedirect (portAt (now (s .entry)) (p .0)) ⌝ }
+{
+    registers::with_redirect(port_at(s, p))
 }

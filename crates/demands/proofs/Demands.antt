@@ -22,7 +22,7 @@ use Rattle.chassis.proofs.NamedHold.{pair-held, itself-held, stray-held, taken-
 use Rattle.chassis.specs.Check.{faulty, verdictOf}
 use Rattle.chassis.specs.Table.{findingOf}
 use Rattle.chassis.specs.Findings.{NoneWith, Says}
-use Rattle.chassis.specs.Walk.{Walk, comeTo}
+use Rattle.chassis.specs.Walk.{Walk, startsAt}
 use Rattle.chassis.proofs.CheckLaws.{shared-true}
 use Rattle.chassis.proofs.Demand3.{clean-one-end}
 use Rattle.chassis.proofs.Steps.{left-most}
@@ -105,7 +105,7 @@ module _ (s : List ℕ) (kind start target : ℕ) where
           → (a : WalkAnswer) × AskedGives wrong (chassisOf s) kind start target a
       asked h is true wrong = (refusedWalk number16, refl)
       asked h is false right =
-          let w = walk-exists (chassisOf s) (packetOf kind target) (sane-read s h is) (comeTo start) (within-start (chassisOf s) (sane-read s h is) kind start target right refl) in
+          let w = walk-exists (chassisOf s) (packetOf kind target) (sane-read s h is) (startsAt (chassisOf s) (packetOf kind target) start) (within-start (chassisOf s) (sane-read s h is) kind start target right (packetOf kind target) refl) in
           let walked : Walked = record { path = pathOf (w .path); end = w .end } in
           (endedWalk walked, (walked, record { crossed = w .path; walk = w .walk; named = refl }, refl))
 
@@ -114,7 +114,7 @@ module _ (s : List ℕ) (kind start target : ℕ) where
       read (Read h) is = asked h is (askedWrongly (treeOf s) kind start target) refl
 
   Named : WalkAnswer → End → Type 0
-  Named a e = (crossed : List PortNo) × Walk (chassisOf s) (packetOf kind target) (comeTo start) crossed e × Names (a .path) crossed
+  Named a e = (crossed : List PortNo) × Walk (chassisOf s) (packetOf kind target) (startsAt (chassisOf s) (packetOf kind target) start) crossed e × Names (a .path) crossed
 
   asked-named : (a : WalkAnswer) (e : End) (h : Header) → reading s ≡ Read h → (wrong : Bool) → askedWrongly (treeOf s) kind start target ≡ wrong
       → AskedGives wrong (chassisOf s) kind start target a → a .outcome ≡ Ended e → Named a e
@@ -128,10 +128,10 @@ module _ (s : List ℕ) (kind start target : ℕ) where
       let gives = given .2 in
       let told = ap (λ (x : WalkAnswer). x .outcome) gives in
       let same : w .end ≡ e = cc in
-      let within = within-start (chassisOf s) (sane-read s h is) kind start target right refl in
-      let short = le-trans (walk-short (chassisOf s) (packetOf kind target) (sane-read s h is) within (arrives .walk)) (left-most (chassisOf s) (comeTo start)) in (
+      let within = within-start (chassisOf s) (sane-read s h is) kind start target right (packetOf kind target) refl in
+      let short = le-trans (walk-short (chassisOf s) (packetOf kind target) (sane-read s h is) within (arrives .walk)) (left-most (chassisOf s) (startsAt (chassisOf s) (packetOf kind target) start)) in (
         arrives .crossed,
-        subst (λ (x : End). Walk (chassisOf s) (packetOf kind target) (comeTo start) (arrives .crossed) x) same (arrives .walk),
+        subst (λ (x : End). Walk (chassisOf s) (packetOf kind target) (startsAt (chassisOf s) (packetOf kind target) start) (arrives .crossed) x) same (arrives .walk),
         names (a .path) (arrives .crossed) short (ap (λ (x : WalkAnswer). x .path) gives ∙ arrives .named),
       )
 

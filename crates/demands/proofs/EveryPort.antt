@@ -14,7 +14,7 @@ use Rattle.chassis.specs.declared.Fault.the-variants.{Shared, Stray, Taken}
 use Rattle.chassis.specs.Walk.{comeTo}
 use Rattle.chassis.proofs.EveryPort.{HostFinds, host-finds}
 use Rattle.registers.specs.declared.Port.{Port}
-use Rattle.registers.specs.Record.{portAt, recordAt}
+use Rattle.registers.specs.Record.{portAt, recordIn}
 use Rattle.trees.specs.Trees.{treeOf, countOf}
 use Rattle.paths.specs.Paths.{pathOf}
 use Rattle.picture.specs.declared.Header.{Header}
@@ -43,8 +43,8 @@ use Rattle.demands.proofs.Trials.{trial-2}
 
 -- an own ID has 16 bits
 own-small : (s : List ℕ) → Bytes s → (p : ℕ) → portAt s p .«own_id» .0 < 2 ^ 16
-unfolding portAt recordAt u16At
-own-small s bytes p = omega (arith, bytes (16 + 56 * p + 2), bytes (16 + 56 * p + 2 + 1))
+unfolding portAt u16At
+own-small s bytes p = omega (arith, bytes (recordIn s p + 2), bytes (recordIn s p + 2 + 1))
 
 module _ (s : List ℕ) (p : ℕ) (small : chassisOf s .ownId p < 2 ^ 16) where
   asked-rightly : askedWrongly (treeOf s) 2 255 (chassisOf s .ownId p) ≡ false

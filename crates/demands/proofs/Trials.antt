@@ -10,7 +10,7 @@ use Rattle.chassis.specs.Check.{verdictOf}
 use Rattle.chassis.specs.OneEnd.{InRange, OneEnd}
 use Rattle.ids.specs.declared.PortNo.{PortNo}
 use Rattle.ids.specs.declared.Target.{Target}
-use Rattle.chassis.specs.Walk.{Walk, comeTo}
+use Rattle.chassis.specs.Walk.{Walk, startsAt}
 use Rattle.registers.specs.declared.Mechanism.{Mechanism}
 use Rattle.registers.specs.Record.{portAt}
 use Rattle.trees.specs.Trees.{countOf}
@@ -66,7 +66,7 @@ module _ (s patch : List ℕ) where
     handed-out m = vector-patched s patch h (accepted s patch h is) port there m ∙ vector-told s patch h is port m
 
   named-in : (kind start target : ℕ) (a : WalkAnswer) (e : End) (got : Reading) → TriedGives got s′ kind start target a → a .outcome ≡ Ended e
-      → (crossed : List PortNo) × Walk (chassisOf s′) (packetOf kind target) (comeTo start) crossed e × Names (a .path) crossed
+      → (crossed : List PortNo) × Walk (chassisOf s′) (packetOf kind target) (startsAt (chassisOf s′) (packetOf kind target) start) crossed e × Names (a .path) crossed
   unfolding refusedWalk
   named-in kind start target a e (NotRead r) gives ended =
       let told = ap (λ (x : WalkAnswer). x .outcome) gives in

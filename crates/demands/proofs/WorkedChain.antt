@@ -21,7 +21,7 @@ use Rattle.chassis.specs.Chassis.{Chassis, holds, withPort, lowestTwo, passesAt
 use Rattle.chassis.specs.Check.{clash, clashesWith, straysAt, ownIdLost, takes, takenAt, faulty}
 use Rattle.chassis.specs.Findings.{Earlier, NoneWith, Says}
 use Rattle.chassis.specs.Tree.{anyBelow, isDevicePort, upstreamBroken, downstreamBroken, treeBroken, oneAbove, above, chainTooLong}
-use Rattle.chassis.specs.Walk.{functionNumber, decided, downward, byHolders, soleHolder, deviceOr, comeTo, underType0, underType1, next, ends, goes}
+use Rattle.chassis.specs.Walk.{functionNumber, decided, downward, byHolders, soleHolder, deviceOr, comeTo, isRedirected, underType0, underType1, next, ends, goes}
 use Rattle.chassis.proofs.Bools.{and-true-parts}
 use Rattle.chassis.proofs.CheckLaws.{no-address-taken}
 use Rattle.chassis.proofs.Ports.{anyBelow-false}
@@ -211,7 +211,7 @@ unfolding checkOf
 taken-shown = rw (chain-reads 0x40) (ap Judged (verdict-exactly (chassisOf takenChain) (Found·Taken (id 0x0200) byBus) .1 says-taken))
 
 pub chain-walks : ChainWalks
-unfolding zeros u16 u32 bridgeOf chainFrom u16At u32At bridgeAt fpbAt portAt recordAt withAri settingsOf vectorBytes vectorOf isSet hits busClaims vectorClaims idDecoders atLeastOne inSecondaryRange convertedByBus converted holds withPort lowestTwo passesAt anyBelow isDevicePort functionNumber decided downward byHolders soleHolder deviceOr comeTo underType0 underType1 next packetOf idTooLarge isStart askedWrongly
+unfolding zeros u16 u32 bridgeOf chainFrom u16At u32At bridgeAt fpbAt portAt recordAt withAri settingsOf vectorBytes vectorOf isSet hits busClaims vectorClaims idDecoders atLeastOne inSecondaryRange convertedByBus converted holds withPort lowestTwo passesAt anyBelow isDevicePort functionNumber decided downward byHolders soleHolder deviceOr comeTo isRedirected underType0 underType1 next packetOf idTooLarge isStart askedWrongly
 chain-walks =
     record {
       upstream-found = given foundChain threePorts (chain-reads 0x20) 2 255 0x0100 (0 ∷ []) (Function (portNo 1)) refl (goes refl (ends refl));

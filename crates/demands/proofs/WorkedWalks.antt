@@ -9,9 +9,9 @@ use Rattle.chassis.specs.declared.End.the-variants.{Device, Function, Host, Uns
 use Rattle.ids.specs.Ids.{portNo}
 use Rattle.chassis.specs.Chassis.{holds, withPort, lowestTwo, passesAt, atLeastOne}
 use Rattle.chassis.specs.Tree.{anyBelow, isDevicePort}
-use Rattle.chassis.specs.Walk.{functionNumber, decided, downward, byHolders, soleHolder, deviceOr, comeTo, upward, fromBelow, underType0, underType1, next, Walk, ends, goes}
+use Rattle.chassis.specs.Walk.{functionNumber, decided, downward, byHolders, soleHolder, deviceOr, comeTo, isRedirected, startsAt, upward, fromBelow, underType0, underType1, next, Walk, ends, goes}
 use Rattle.registers.specs.Record.{bridgeAt, fpbAt, portAt, recordAt}
-use Rattle.registers.specs.Rules.{withAri}
+use Rattle.registers.specs.Rules.{withAri, withRedirect}
 use Rattle.claims.specs.Decoders.{busClaims, vectorClaims, memoryClaims, prefetchableClaims, lowClaims, highClaims, vgaEnabled, videoClaims, memorySpaceEnabled, idDecoders, addressDecoders}
 use Rattle.claims.specs.Conversion.{inSecondaryRange, convertedByBus, converted}
 use Rattle.claims.specs.Claims.{chassisOf}
@@ -27,7 +27,7 @@ use Rattle.demands.proofs.FourPorts.{fourPorts, reads}
 -- an answer that the rules lead to is given
 pub given : (s : List ℕ) (h : Header) → reading s ≡ Read h → (kind start target : ℕ) (crossed : List ℕ) (end : End)
     → askedWrongly (treeOf s) kind start target ≡ false
-    → Walk (chassisOf s) (packetOf kind target) (comeTo start) (portNos crossed) end
+    → Walk (chassisOf s) (packetOf kind target) (startsAt (chassisOf s) (packetOf kind target) start) (portNos crossed) end
     → WalkGives s kind start target (cameTo end crossed)
 unfolding endedWalk
 given s h is kind start target crossed end right walk =
@@ -39,7 +39,7 @@ given s h is kind start target crossed end right walk =
     ))
 
 pub worked-walks : WorkedWalks
-unfolding zeros u16 u32 headerFor recordOf switchWith u16At u32At bridgeAt fpbAt portAt recordAt withAri busClaims vectorClaims memoryClaims prefetchableClaims lowClaims highClaims vgaEnabled videoClaims memorySpaceEnabled idDecoders atLeastOne addressDecoders inSecondaryRange convertedByBus converted holds withPort lowestTwo passesAt anyBelow isDevicePort functionNumber decided downward byHolders soleHolder deviceOr comeTo upward fromBelow underType0 underType1 next targetAsked packetOf idTooLarge isStart askedWrongly
+unfolding zeros u16 u32 headerFor recordOf switchWith u16At u32At bridgeAt fpbAt portAt recordAt withAri withRedirect busClaims vectorClaims memoryClaims prefetchableClaims lowClaims highClaims vgaEnabled videoClaims memorySpaceEnabled idDecoders atLeastOne addressDecoders inSecondaryRange convertedByBus converted holds withPort lowestTwo passesAt anyBelow isDevicePort functionNumber decided downward byHolders soleHolder deviceOr comeTo isRedirected upward fromBelow underType0 underType1 next targetAsked packetOf idTooLarge isStart askedWrongly
 worked-walks =
     record {
       down = given worked fourPorts (reads 4) 0 255 0x0300 (0 ∷ 1 ∷ 2 ∷ []) (Device (portNo 2) 0) refl (goes refl (goes refl (goes refl (ends refl))));

@@ -65,7 +65,7 @@ pub record WalksIn (c : Chassis) (Gives : ℕ → ℕ → ℕ → WalkAnswer →
   pub answers : (kind start target : ℕ) → (a : WalkAnswer) × Gives kind start target a
   pub only : (kind start target : ℕ) (a b : WalkAnswer) → Gives kind start target a → Gives kind start target b → a ≡ b
   pub named : (kind start target : ℕ) (a : WalkAnswer) (e : End) → Gives kind start target a → a .outcome ≡ Ended e
-      → (crossed : List PortNo) × Walk c (packetOf kind target) (comeTo start) crossed e × Names (a .path) crossed
+      → (crossed : List PortNo) × Walk c (packetOf kind target) (startsAt c (packetOf kind target) start) crossed e × Names (a .path) crossed
 
 -- Demand 2: "For every picture that reads, what each port claims, how a configuration request is converted and where each packet ends
 -- are as the FPB and ARI change notices say .. with every port crossed named in order": each claim and each conversion is the

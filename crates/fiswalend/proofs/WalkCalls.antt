@@ -6,7 +6,7 @@ use mathlib.Core.Path.{_≡_, refl, sym, ap, subst, _∙_}
 use native.Mathlib.Nat.{le-trans}
 use native.Mathlib.Omega.{arith}
 use lib.ListN.{length, drop, getD}
-use Rattle.chassis.specs.Walk.{comeTo}
+use Rattle.chassis.specs.Walk.{startsAt}
 use Rattle.chassis.proofs.Steps.{left-most}
 use Rattle.chassis.proofs.Walks.{walk-short}
 use Rattle.paths.specs.Paths.{pathOf}
@@ -44,8 +44,8 @@ module _ (s : List ℕ) (kind start target : ℕ) (a : WalkAnswer) where
   unfolding refusedWalk endedWalk pathOf
   asked-short h read true asked gives = rw gives (omega arith)
   asked-short h read false asked gives =
-      let short = walk-short (chassisOf s) (packetOf kind target) (sane-read s h read) (within-start (chassisOf s) (sane-read s h read) kind start target asked refl) (gives .1 .walk) in
-      rw (gives .2, gives .1 .named) (le-trans short (left-most (chassisOf s) (comeTo start)))
+      let short = walk-short (chassisOf s) (packetOf kind target) (sane-read s h read) (within-start (chassisOf s) (sane-read s h read) kind start target asked (packetOf kind target) refl) (gives .1 .walk) in
+      rw (gives .2, gives .1 .named) (le-trans short (left-most (chassisOf s) (startsAt (chassisOf s) (packetOf kind target) start)))
 
   pub crossings-few : WalkGives s kind start target a → a .path .count ≤ 32
   unfolding refusedWalk pathOf

@@ -4,10 +4,12 @@ use mathlib.Core.Bool.{Bool, true, false}
 use mathlib.Core.List.{List}
 use mathlib.Core.Path.{_≡_, refl, sym, ap, subst, _∙_}
 use Rattle.chassis.specs.Check.{verdictOf}
-use Rattle.chassis.specs.Walk.{comeTo}
-use Rattle.chassis.proofs.Alike.{verdict-alike}
+use Rattle.chassis.specs.declared.Packet.{Packet}
+use Rattle.chassis.specs.declared.Whereabouts.{Whereabouts}
+use Rattle.chassis.specs.Walk.{Walk, startsAt}
+use Rattle.chassis.proofs.Alike.{Alike, verdict-alike}
 use Rattle.chassis.proofs.AlikeTrees.{device-alike}
-use Rattle.chassis.proofs.AlikeWalks.{walk-alike}
+use Rattle.chassis.proofs.AlikeWalks.{walk-alike, starts-alike}
 use Rattle.chassis.proofs.Tree.{Sane}
 use Rattle.picture.specs.declared.Header.{Header}
 use Rattle.picture.specs.declared.Refusal.{Refusal}
@@ -29,7 +31,7 @@ use Rattle.judge.specs.declared.WalkAnswer.{WalkAnswer}
 use Rattle.judge.specs.Checking.{checkOf, checkAnswer}
 use Rattle.judge.specs.Trying.{triedCheck, trialCheck, TriedGives, TrialGives}
 use Rattle.judge.specs.Walking.{packetOf, isStart, askedWrongly, refusedWalk, AskedGives, WalkGives}
-use Rattle.judge.proofs.Walks.{walk-only, gives-read, within-start}
+use Rattle.judge.proofs.Walks.{walk-only, gives-read, started, within-start}
 
 module _ (s patch : List ℕ) (h : Header) (read : readingWith s patch ≡ Read h) where
   abbrev taken : Accepted s patch h
@@ -51,16 +53,22 @@ module _ (s patch : List ℕ) (h : Header) (read : readingWith s patch ≡ Read 
   pub patched-read : reading s′ ≡ Read h
   patched-read = patched-reads s patch h taken
 
+  alike : Alike (chassisOver s patch) (chassisOf s′)
+  alike = alike-patched s patch h taken
+
   -- the check's answer
   pub trial-judged : Judged (verdictOf (chassisOver s patch)) ≡ trialCheck s patch
   unfolding triedCheck checkOf
   trial-judged =
-      rw (read, patched-read) (ap Judged (verdict-alike (chassisOver s patch) (chassisOf s′) (alike-patched s patch h taken) sane-tried))
+      rw (read, patched-read) (ap Judged (verdict-alike (chassisOver s patch) (chassisOf s′) alike sane-tried))
 
   module _ (kind start target : ℕ) where
     same-asked : askedWrongly (treeOf s) kind start target ≡ askedWrongly (treeOf s′) kind start target
     unfolding askedWrongly isStart
     same-asked = rw (device-alike (treeOf s) (treeOf s′) (trees-patched s patch h taken) start)
+
+    abbrev packet : Packet
+    packet = packetOf kind target
 
     carried : (a : WalkAnswer) (wrong : Bool) → askedWrongly (treeOf s) kind start target ≡ wrong
         → AskedGives wrong (chassisOver s patch) kind start target a → AskedGives wrong (chassisOf s′) kind start target a
@@ -70,8 +78,10 @@ module _ (s patch : List ℕ) (h : Header) (read : readingWith s patch ≡ Read 
       record {
         crossed = gives .1 .crossed;
         walk =
-            walk-alike (chassisOver s patch) (chassisOf s′) (alike-patched s patch h taken) sane-tried (packetOf kind target) (comeTo start)
-            (gives .1 .crossed) (gives .0 .end) (within-start (chassisOver s patch) sane-tried kind start target asked refl) (gives .1 .walk);
+            subst (λ (from : Whereabouts). Walk (chassisOf s′) packet from (gives .1 .crossed) (gives .0 .end))
+            (starts-alike (chassisOver s patch) (chassisOf s′) alike packet start (started (chassisOver s patch) sane-tried kind start target asked))
+            (walk-alike (chassisOver s patch) (chassisOf s′) alike sane-tried packet (startsAt (chassisOver s patch) packet start)
+            (gives .1 .crossed) (gives .0 .end) (within-start (chassisOver s patch) sane-tried kind start target asked packet refl) (gives .1 .walk));
         named = gives .1 .named;
       },
       gives .2,

@@ -2,6 +2,7 @@
 use Prim.Native.Nat.{ℕ, _<_, _≤_}
 use mathlib.Core.Bool.{Bool, true, false, not, _||_}
 use mathlib.Core.List.{List, []}
+use mathlib.Core.Logic.{_⊎_, inl, inr}
 use mathlib.Core.Path.{_≡_, refl, sym, ap, subst, subst₂, _∙_}
 use native.Mathlib.Omega.{arith}
 use borrow.Author.Tests.{eqb-true, ltb-true, not-false}
@@ -12,7 +13,7 @@ use Rattle.chassis.specs.declared.Whereabouts.{Whereabouts}
 use Rattle.chassis.specs.declared.Whereabouts.the-variants.{Root}
 use Rattle.chassis.specs.Chassis.{Chassis}
 use Rattle.chassis.specs.Tree.{Tree, root, isDevicePort, hasChildBelow, upstream}
-use Rattle.chassis.specs.Walk.{comeTo}
+use Rattle.chassis.specs.Walk.{comeTo, isRedirected, startsAt}
 use Rattle.chassis.proofs.Bools.{or-false-parts, and-true-parts}
 use Rattle.chassis.proofs.Starts.{comeTo-root, comeTo-within}
 use Rattle.chassis.proofs.Steps.{Within}
@@ -47,9 +48,8 @@ module _ (tree : Tree) (kind start target : ℕ) (asked : askedWrongly tree kind
   start-right = not-false (isStart tree start) (parts .1)
 
 -- a start is 255 or a port
-pub data Starts (tree : Tree) (start : ℕ) : Type 0 where
-  at-root : start ≡ root → Starts tree start
-  at-port : start < tree .count → Starts tree start
+abbrev pub Starts : Tree → ℕ → Type 0
+Starts tree start = (start ≡ root) ⊎ (start < tree .count)
 
 device-port-below : (tree : Tree) (p : ℕ) → isDevicePort tree p ≡ true → p < tree .count
 unfolding isDevicePort
@@ -61,18 +61,19 @@ unfolding isStart
 starts tree start e = go (eqb start root) (isDevicePort tree start) refl refl e
   where
     go : (a b : Bool) → eqb start root ≡ a → isDevicePort tree start ≡ b → (a || b) ≡ true → Starts tree start
-    go true b ea eb e = at-root (eqb-true start root ea)
-    go false true ea eb e = at-port (device-port-below tree start eb)
+    go true b ea eb e = inl (eqb-true start root ea)
+    go false true ea eb e = inr (device-port-below tree start eb)
     go false false ea eb e = impossible (cc)
 
 module _ (c : Chassis) (sane : Sane (c .tree)) (start : ℕ) where
   pub start-small : Starts (c .tree) start → start < 256
-  start-small (at-root e) = omega arith
-  start-small (at-port l) = omega (arith, sane .few)
+  start-small (inl e) = omega arith
+  start-small (inr l) = omega (arith, sane .few)
 
-  pub start-within : Starts (c .tree) start → Within c (comeTo start)
-  start-within (at-root e) = subst (λ (n : ℕ). Within c (comeTo n)) (sym e) (subst (Within c) (sym comeTo-root) tt)
-  start-within (at-port l) = comeTo-within c sane start l
+  pub start-within : (redirected : Bool) → Starts (c .tree) start → Within c (comeTo redirected start)
+  start-within redirected (inl e) =
+      subst (λ (n : ℕ). Within c (comeTo redirected n)) (sym e) (subst (Within c) (sym (comeTo-root redirected)) tt)
+  start-within redirected (inr l) = comeTo-within c sane start l redirected
 
 -- where the rules lead is one place, by one path
 arrives-one : {c : Chassis} {packet : Packet} {start : Whereabouts} (a b : Walked) → Arrives c packet start a → Arrives c packet start b → a ≡ b
@@ -101,10 +102,11 @@ module _ (c : Chassis) (kind start target : ℕ) (answer : WalkAnswer) where
   gives-16 asked e = subst Gives (sym asked) e
 
   pub gives-end : {packet : Packet} {from : Whereabouts} (w : Walked) → askedWrongly (c .tree) kind start target ≡ false
-      → packet ≡ packetOf kind target → from ≡ comeTo start → Arrives c packet from w → answer ≡ endedWalk w
+      → packet ≡ packetOf kind target → from ≡ startsAt c packet start → Arrives c packet from w → answer ≡ endedWalk w
       → Gives (askedWrongly (c .tree) kind start target)
   gives-end w asked what where-from arrives e =
-      subst Gives (sym asked) (w, subst₂ (λ (p : Packet) (x : Whereabouts). Arrives c p x w) what where-from arrives, e)
+      let from-there = where-from ∙ ap (λ (p : Packet). startsAt c p start) what in
+      subst Gives (sym asked) (w, subst₂ (λ (p : Packet) (x : Whereabouts). Arrives c p x w) what from-there arrives, e)
 
 -- the two ways in which the walk call ends
 module _ (s : List ℕ) (kind start target : ℕ) (answer : WalkAnswer) where
@@ -123,11 +125,11 @@ module _ (s : List ℕ) (kind start target : ℕ) (answer : WalkAnswer) where
 
 -- what a call that is not refused gives the walk
 module _ (c : Chassis) (sane : Sane (c .tree)) (kind start target : ℕ) (asked : askedWrongly (c .tree) kind start target ≡ false) where
-  started : Starts (c .tree) start
+  pub started : Starts (c .tree) start
   started = starts (c .tree) start (start-right (c .tree) kind start target asked)
 
   pub small-start : start < 256
   small-start = start-small c sane start started
 
-  pub within-start : {from : Whereabouts} → from ≡ comeTo start → Within c from
-  within-start e = subst (Within c) (sym e) (start-within c sane start started)
+  pub within-start : {from : Whereabouts} (packet : Packet) → from ≡ startsAt c packet start → Within c from
+  within-start packet e = subst (Within c) (sym e) (start-within c sane start (isRedirected c packet start) started)

@@ -24,7 +24,7 @@ endedWalk w = record { outcome = Ended (w .end); path = w .path }
 abbrev pub AskedGives : Bool → Chassis → ℕ → ℕ → ℕ → WalkAnswer → Type 0
 AskedGives true c kind start target answer = answer ≡ refusedWalk number16
 AskedGives false c kind start target answer =
-    (w : Walked) × Arrives c (packetOf kind target) (comeTo start) w × (answer ≡ endedWalk w)
+    (w : Walked) × Arrives c (packetOf kind target) (startsAt c (packetOf kind target) start) w × (answer ≡ endedWalk w)
 
 abbrev pub ReadGives : Reading → List ℕ → ℕ → ℕ → ℕ → WalkAnswer → Type 0
 ReadGives (NotRead r) s kind start target answer = answer ≡ refusedWalk r

@@ -6,7 +6,6 @@ use crate::asking::target_asked;
 use crate::refusals::number_16;
 use crate::refusals::refusal_of;
 use chassis::Packet;
-use chassis::Whereabouts;
 use ids::PortNo;
 use ids::Rid;
 use paths::Path;
@@ -16,7 +15,6 @@ use routes::Walked;
 ghost use mathlib.Core.Bool.{false};
 ghost use mathlib.Core.Path.{_≡_};
 ghost use Prim.Native.Nat.{_<_};
-ghost use Rattle.chassis.specs.Walk.{comeTo};
 ghost use Rattle.chassis.proofs.Tree.{Sane};
 ghost use Rattle.trees.specs.Trees.{countOf, treeOf};
 ghost use Rattle.claims.specs.Over.{chassisOver};
@@ -60,17 +58,6 @@ fn asked_wrongly(s: &[u8], n: u8, kind: u32, start: u32, target: u64) -> bool
     (2 < kind) | id_too_large(kind, target) | !is_start(s, n, start)
 }
 
-// Where a packet is that starts there: 255 is the root.
-fn start_of(start: u32) -> Whereabouts
-    requires { ⌜ start < 256 ⌝ }
-    ensures { λ r. ⌜ r ≡ comeTo start ⌝ }
-{
-    if start == ROOT_START {
-        return Whereabouts::Root;
-    }
-    Whereabouts::From(PortNo(start as u8))
-}
-
 // The answer of a call that is refused: nothing is crossed.
 pub fn refused(r: Refusal) -> WalkAnswer
     ensures { λ a. ⌜ a ≡ refusedWalk r ⌝ }
@@ -109,7 +96,9 @@ pub fn walk_over<'a>(
     if asked_wrongly(s, n, kind, start, target) {
         return refused(number_16());
     }
-    ended(routes::walk_from(s, patch, n, packet_of(kind, target), start_of(start)))
+    let packet = packet_of(kind, target);
+    let from = routes::starts_at(s, patch, packet, PortNo(start as u8));
+    ended(routes::walk_from(s, patch, n, packet, from))
 }
 
 // Numbers 1 to 10, then 16, else where the packet ends, with every port crossed.

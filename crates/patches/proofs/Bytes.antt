@@ -1,13 +1,16 @@
 -- The bytes of a list after others were put in, and what is read of two lists whose first bytes agree.
 -- Assumes nothing.
-use Prim.Native.Nat.{ℕ, _+_, _-_, _*_, _<_, _≤_}
+use Prim.Native.Nat.{ℕ, suc, _+_, _-_, _<_, _≤_}
+use mathlib.Core.Bool.{Bool, true, false, cond}
 use mathlib.Core.List.{List, _++_}
-use mathlib.Core.Path.{_≡_, sym, ap, _∙_, subst}
+use mathlib.Core.Path.{_≡_, refl, sym, ap, _∙_, subst}
 use native.Mathlib.Omega.{arith}
+use lib.Dec.{eqb}
 use lib.ListN.{length, getD, take, drop, length-append, length-take, length-drop, List·getD-append}
 use lib.Seq.{length-take-le, getD-take, getD-drop, getD-append-add, ext-getD}
 use Rattle.lent.specs.Lent.{u16At, u32At}
-use Rattle.registers.specs.Record.{recordAt, bridgeAt, fpbAt, portAt}
+use Rattle.registers.specs.Record.{editionOf, recordBytes, recordAt, recordIn, inEdition2, bridgeAt, fpbAt, portAt}
+use Rattle.registers.proofs.Laws.{record-least, record-next, record-behind}
 use Rattle.patches.specs.Patched.{putIn}
 
 module _ (s : List ℕ) (at : ℕ) (new : List ℕ) (fits : at + length new ≤ length s) where
@@ -67,33 +70,76 @@ module _ (n : ℕ) (s s′ : List ℕ) (same : SameTo n s s′) where
   unfolding u32At
   u32-same i l = rw (u16-same i (omega arith), u16-same (i + 2) (omega arith))
 
-  -- the record of a port that lies in them
-  pub port-same : (p : ℕ) → recordAt p + 56 ≤ n → portAt s p ≡ portAt s′ p
-  unfolding portAt bridgeAt fpbAt
-  port-same p l = λ i. record {
-    kind = same (recordAt p) (omega arith) i;
-    parent = record { 0 = same (recordAt p + 1) (omega arith) i };
-    «own_id» = record { 0 = u16-same (recordAt p + 2) (omega arith) i };
-    «device_control_2» = u16-same (recordAt p + 24) (omega arith) i;
-    bridge = record {
-      command = u16-same (recordAt p + 4) (omega arith) i;
-      secondary = same (recordAt p + 6) (omega arith) i;
-      subordinate = same (recordAt p + 7) (omega arith) i;
-      «memory_base» = u16-same (recordAt p + 8) (omega arith) i;
-      «memory_limit» = u16-same (recordAt p + 10) (omega arith) i;
-      «prefetchable_base» = u16-same (recordAt p + 12) (omega arith) i;
-      «prefetchable_limit» = u16-same (recordAt p + 14) (omega arith) i;
-      «prefetchable_base_upper» = u32-same (recordAt p + 16) (omega arith) i;
-      «prefetchable_limit_upper» = u32-same (recordAt p + 20) (omega arith) i;
-      «bridge_control» = u16-same (recordAt p + 26) (omega arith) i;
-    };
-    fpb = record {
-      capabilities = u32-same (recordAt p + 28) (omega arith) i;
-      «rid_control_1» = u32-same (recordAt p + 32) (omega arith) i;
-      «rid_control_2» = u32-same (recordAt p + 36) (omega arith) i;
-      «mem_low_control» = u32-same (recordAt p + 40) (omega arith) i;
-      «mem_high_control_1» = u32-same (recordAt p + 44) (omega arith) i;
-      «mem_high_control_2» = u32-same (recordAt p + 48) (omega arith) i;
-    };
-    «vectors_at» = u32-same (recordAt p + 52) (omega arith) i;
-  }
+  -- the record of a port that lies in them, with the edition that says where
+  module _ (p : ℕ) (l : recordIn s (suc p) ≤ n) where
+    edition-same : editionOf s ≡ editionOf s′
+    edition-same = u16-same 0 (omega (arith, record-behind (editionOf s) (suc p)))
+
+    ends-there : recordIn s p + recordBytes (editionOf s) ≤ n
+    ends-there = rw (← record-next (editionOf s) p) l
+
+    first-there : getD s (recordIn s p) 0 ≡ getD s′ (recordIn s′ p) 0
+    first-there =
+        same (recordIn s p) (omega (arith, ends-there, record-least (editionOf s)))
+        ∙ ap (λ (e : ℕ). getD s′ (recordAt e p) 0) edition-same
+
+    byte-there : (k : ℕ) → k < 56 → getD s (recordIn s p + k) 0 ≡ getD s′ (recordIn s′ p + k) 0
+    byte-there k m =
+        same (recordIn s p + k) (omega (arith, ends-there, record-least (editionOf s)))
+        ∙ ap (λ (e : ℕ). getD s′ (recordAt e p + k) 0) edition-same
+
+    u16-there : (k : ℕ) → k + 2 ≤ recordBytes (editionOf s) → u16At s (recordIn s p + k) ≡ u16At s′ (recordIn s′ p + k)
+    u16-there k m =
+        u16-same (recordIn s p + k) (omega (arith, ends-there))
+        ∙ ap (λ (e : ℕ). u16At s′ (recordAt e p + k)) edition-same
+
+    u16-early : (k : ℕ) → k + 2 ≤ 56 → u16At s (recordIn s p + k) ≡ u16At s′ (recordIn s′ p + k)
+    u16-early k m = u16-there k (omega (arith, record-least (editionOf s)))
+
+    u32-there : (k : ℕ) → k + 4 ≤ 56 → u32At s (recordIn s p + k) ≡ u32At s′ (recordIn s′ p + k)
+    u32-there k m =
+        u32-same (recordIn s p + k) (omega (arith, ends-there, record-least (editionOf s)))
+        ∙ ap (λ (e : ℕ). u32At s′ (recordAt e p + k)) edition-same
+
+    -- a field that edition 2 alone has
+    late-there : (k : ℕ) → k + 2 ≤ 60
+        → inEdition2 (editionOf s) (u16At s (recordIn s p + k)) ≡ inEdition2 (editionOf s′) (u16At s′ (recordIn s′ p + k))
+    late-there k m =
+        go (eqb (editionOf s) 2) refl
+        ∙ ap (λ (e : ℕ). inEdition2 e (u16At s′ (recordIn s′ p + k))) edition-same
+      where
+        go : (b : Bool) → eqb (editionOf s) 2 ≡ b → cond b (u16At s (recordIn s p + k)) 0 ≡ cond b (u16At s′ (recordIn s′ p + k)) 0
+        go true e = u16-there k (rw e m)
+        go false e = refl
+
+    pub port-same : portAt s p ≡ portAt s′ p
+    unfolding portAt bridgeAt fpbAt
+    port-same = λ i. record {
+      kind = first-there i;
+      parent = record { 0 = byte-there 1 (omega arith) i };
+      «own_id» = record { 0 = u16-early 2 (omega arith) i };
+      «device_control_2» = u16-early 24 (omega arith) i;
+      bridge = record {
+        command = u16-early 4 (omega arith) i;
+        secondary = byte-there 6 (omega arith) i;
+        subordinate = byte-there 7 (omega arith) i;
+        «memory_base» = u16-early 8 (omega arith) i;
+        «memory_limit» = u16-early 10 (omega arith) i;
+        «prefetchable_base» = u16-early 12 (omega arith) i;
+        «prefetchable_limit» = u16-early 14 (omega arith) i;
+        «prefetchable_base_upper» = u32-there 16 (omega arith) i;
+        «prefetchable_limit_upper» = u32-there 20 (omega arith) i;
+        «bridge_control» = u16-early 26 (omega arith) i;
+      };
+      fpb = record {
+        capabilities = u32-there 28 (omega arith) i;
+        «rid_control_1» = u32-there 32 (omega arith) i;
+        «rid_control_2» = u32-there 36 (omega arith) i;
+        «mem_low_control» = u32-there 40 (omega arith) i;
+        «mem_high_control_1» = u32-there 44 (omega arith) i;
+        «mem_high_control_2» = u32-there 48 (omega arith) i;
+      };
+      «vectors_at» = u32-there 52 (omega arith) i;
+      «acs_control» = late-there 56 (omega arith) i;
+      zeros = late-there 58 (omega arith) i;
+    }

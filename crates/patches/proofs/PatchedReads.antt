@@ -17,7 +17,8 @@ use Rattle.chassis.proofs.AlikeTrees.{AlikeTrees, sane-alike}
 use Rattle.chassis.proofs.Tree.{Sane}
 use Rattle.registers.specs.declared.Mechanism.{Mechanism}
 use Rattle.registers.specs.declared.Port.{Port}
-use Rattle.registers.specs.Record.{recordAt, portAt}
+use Rattle.registers.specs.Record.{editionOf, recordIn, portAt}
+use Rattle.registers.proofs.Laws.{record-mono, record-behind}
 use Rattle.registers.specs.Vectors.{vectorBytes}
 use Rattle.trees.specs.Trees.{countOf, treeOf}
 use Rattle.picture.specs.declared.Header.{Header}
@@ -47,7 +48,7 @@ module _ (s patch : List ℕ) (h : Header) (a : Accepted s patch h) where
   read = a .picture-reads
 
   -- all before the vectors is kept
-  same : SameTo (recordAt (countOf s)) s′ s
+  same : SameTo (recordIn s (countOf s)) s′ s
   unfolding runningOffset
   same j l =
       kept-to s patch h a (portsIn patch) (le-refl _) j
@@ -56,28 +57,33 @@ module _ (s patch : List ℕ) (h : Header) (a : Accepted s patch h) where
   length-same : length s′ ≡ length s
   length-same = length-to s patch h a (portsIn patch) (le-refl _)
 
+  header-kept : SameTo 16 s′ s
+  header-kept j l = same j (omega (arith, record-behind (editionOf s) (countOf s)))
+
+  edition-same : editionOf s′ ≡ editionOf s
+  edition-same = u16-same 16 s′ s header-kept 0 (omega arith)
+
   count-same : countOf s′ ≡ countOf s
-  unfolding recordAt
-  count-same = u16-same (recordAt (countOf s)) s′ s same 2 (omega arith)
+  count-same = u16-same 16 s′ s header-kept 2 (omega arith)
 
   header-same : headerOf s′ ≡ headerOf s
-  unfolding headerOf recordAt
+  unfolding headerOf
   header-same = λ i. record {
-    edition = u16-same (recordAt (countOf s)) s′ s same 0 (omega arith) i;
+    edition = edition-same i;
     count = count-same i;
-    total = u32-same (recordAt (countOf s)) s′ s same 4 (omega arith) i;
-    «records_at» = u32-same (recordAt (countOf s)) s′ s same 8 (omega arith) i;
-    «vectors_at» = u32-same (recordAt (countOf s)) s′ s same 12 (omega arith) i;
+    total = u32-same 16 s′ s header-kept 4 (omega arith) i;
+    «records_at» = u32-same 16 s′ s header-kept 8 (omega arith) i;
+    «vectors_at» = u32-same 16 s′ s header-kept 12 (omega arith) i;
   }
 
   -- a port's registers are the picture's
   pub port-patched : (p : ℕ) → p < countOf s → portAt s′ p ≡ portAt s p
-  unfolding recordAt
-  port-patched p l = port-same (recordAt (countOf s)) s′ s same p (omega arith)
+  port-patched p l =
+      sym (port-same (recordIn s (countOf s)) s s′ (λ j m. sym (same j m)) p (record-mono (editionOf s) (suc p) (countOf s) l))
 
   running-same : (p : ℕ) → p ≤ countOf s → runningOffset s′ p ≡ runningOffset s p
   unfolding runningOffset
-  running-same zero l = rw count-same
+  running-same zero l = rw (edition-same, count-same)
   running-same (suc p) l = rw (running-same p (omega arith), port-patched p l)
 
   pub trees-patched : AlikeTrees (treeOf s) (treeOf s′)
@@ -109,7 +115,7 @@ module _ (s patch : List ℕ) (h : Header) (a : Accepted s patch h) where
   reads′ =
       record {
         header = read .header ∙ sym header-same;
-        length-right = rw length-same (read .length-right);
+        length-right = rw (length-same, edition-same) (read .length-right);
         edition-right = rw header-same (read .edition-right);
         count-right = rw header-same (read .count-right);
         total-right = rw (length-same, header-same) (read .total-right);

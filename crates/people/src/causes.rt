@@ -80,14 +80,16 @@ fn with_mechanism(port: Port, m: Mechanism) -> Port {
     let mut kept = port;
     kept.bridge = bridge;
     kept.fpb = fpb;
+    kept.zeros = 0;
     kept
 }
 
-// A port without any mechanism.
+// A port with its Type 1 header alone.
 fn with_bridge(port: Port) -> Port {
     let fpb = blank_fpb();
     let mut kept = port;
     kept.fpb = fpb;
+    kept.zeros = 0;
     kept
 }
 
@@ -135,6 +137,14 @@ fn say_if_memory_wrong(port: Port) {
     say_register(b" and Limit", b.prefetchable_limit);
 }
 
+// The two bytes that must be zero, if they are not.
+fn say_if_zeros_wrong(port: Port) {
+    if port.zeros == 0 {
+        return;
+    }
+    say_register(b"; the two bytes after its ACS Control hold", port.zeros);
+}
+
 // What in a port breaks number 8.
 pub fn say_wrong_settings(s: &[u8], p: PortNo) {
     let port = port_at(s, p);
@@ -142,6 +152,7 @@ pub fn say_wrong_settings(s: &[u8], p: PortNo) {
     say_if_settings_wrong(port, Mechanism::Low);
     say_if_settings_wrong(port, Mechanism::High);
     say_if_memory_wrong(port);
+    say_if_zeros_wrong(port);
 }
 
 // That a port has ARI, which the start of a RID vector depends on.

@@ -4,8 +4,8 @@ use crate::words::say;
 // Numbers 1 to 10.
 fn say_reading(number: u8) {
     match number {
-        1 => say(b"The picture is shorter than 72 bytes or longer than 65,536"),
-        2 => say(b"The picture's edition is not 1"),
+        1 => say(b"The picture is shorter than 72 bytes (76 in edition 2) or longer than 65,536"),
+        2 => say(b"The picture's edition is neither 1 nor 2"),
         3 => say(b"The picture has no port, or more than 64"),
         4 => say(b"The total length in the header is not the picture's length"),
         5 => say(
@@ -14,7 +14,7 @@ fn say_reading(number: u8) {
         6 => say(b"A port breaks a rule of the tree, by its kind, its parent or as a later child"),
         7 => say(b"A port has more than 15 ports above it in its chain"),
         8 => say(
-            b"A port has a vector enabled that it does not support, a size or granularity that may not be, or wrong low bits in a memory register",
+            b"A port has a vector enabled that it does not support, a size or granularity that may not be, wrong low bits in a memory register, or bytes after ACS Control that are not zero",
         ),
         9 => say(b"An enabled vector starts where it may not"),
         _ => say(

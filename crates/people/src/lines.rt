@@ -11,6 +11,7 @@ use registers::Bridge;
 use registers::Mechanism;
 use registers::port_at;
 use registers::with_ari;
+use registers::with_redirect;
 ghost use mathlib.Core.Path.{_≡_};
 ghost use Rattle.trees.specs.Trees.{countOf};
 
@@ -41,11 +42,15 @@ pub fn say_line(s: &[u8], n: u8, p: PortNo)
     say_number_of(p);
     say(b", ");
     say_kind(port.kind);
-    if trees::is_device_port(s, n, p) {
+    let device_port = trees::is_device_port(s, n, p);
+    if device_port {
         say(b", device port");
     }
     if with_ari(port) {
         say(b", ARI");
+    }
+    if device_port & with_redirect(port) {
+        say(b", redirect");
     }
     say_windows(b);
     say_vector_in_use(s, p, f, Mechanism::Rid);

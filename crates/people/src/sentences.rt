@@ -21,6 +21,7 @@ use ids::PortNo;
 use ids::Target;
 use lent::u16_at;
 use lent::u32_at;
+use registers::edition_of;
 use registers::own_id_at;
 use registers::parent_at;
 use registers::port_at;
@@ -54,7 +55,7 @@ fn say_of_picture(s: &[u8], number: u8) {
         1 => say_length(s.len()),
         2 => {
             say(b": it is ");
-            say_number(u16_at(s, 0) as u64);
+            say_number(edition_of(s) as u64);
         }
         3 => say_count(u16_at(s, 2)),
         4 => {

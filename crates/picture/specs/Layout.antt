@@ -8,7 +8,7 @@ use lib.Dec.{eqb}
 use Rattle.registers.specs.declared.Fpb.{Fpb}
 use Rattle.registers.specs.declared.Mechanism.{Mechanism}
 use Rattle.registers.specs.declared.Mechanism.the-variants.{Rid, Low, High}
-use Rattle.registers.specs.Record.{portAt, recordAt}
+use Rattle.registers.specs.Record.{portAt, recordIn}
 use Rattle.registers.specs.Vectors.{vectorBytes}
 use Rattle.trees.specs.Trees.{countOf}
 
@@ -18,7 +18,7 @@ allBytes f = vectorBytes f Rid + vectorBytes f Low + vectorBytes f High
 
 -- where the vectors of port p start if those of the ports before it have no gaps
 unfoldable pub runningOffset : List ℕ → ℕ → ℕ
-runningOffset s zero = recordAt (countOf s)
+runningOffset s zero = recordIn s (countOf s)
 runningOffset s (suc p) = runningOffset s p + allBytes (portAt s p .fpb)
 
 -- 10: "a vector start wrong, or vectors not ending at the total"

@@ -3,6 +3,7 @@ use crate::Header;
 use lent::u16_at;
 use lent::u32_at;
 use registers::HEADER_BYTES;
+use registers::edition_of;
 use registers::record_at;
 ghost use mathlib.Core.Path.{_≡_};
 ghost use Rattle.picture.specs.Header.{headerOf, lengthWrong, editionWrong, countWrong, totalWrong, offsetWrong};
@@ -12,7 +13,7 @@ pub fn header_at(s: &[u8]) -> Header
     ensures { λ r. ⌜ r ≡ headerOf (now (s .entry)) ⌝ }
 {
     Header {
-        edition: u16_at(s, 0),
+        edition: edition_of(s),
         count: u16_at(s, 2),
         total: u32_at(s, 4),
         records_at: u32_at(s, 8),
@@ -24,14 +25,14 @@ pub fn header_at(s: &[u8]) -> Header
 pub fn length_wrong(s: &[u8]) -> bool
     ensures { λ r. ⌜ r ≡ lengthWrong (now (s .entry)) ⌝ }
 {
-    (s.len() < 72) | (65536 < s.len())
+    (s.len() < record_at(edition_of(s), 1)) | (65536 < s.len())
 }
 
 // Number 2.
 pub fn edition_wrong(h: Header) -> bool
     ensures { λ r. ⌜ r ≡ editionWrong h ⌝ }
 {
-    h.edition != 1
+    !((h.edition == 1) | (h.edition == 2))
 }
 
 // Number 3.
@@ -52,7 +53,7 @@ pub fn total_wrong(lent: usize, h: Header) -> bool
 pub fn offset_wrong(lent: usize, h: Header) -> bool
     ensures { λ r. ⌜ r ≡ offsetWrong lent h ⌝ }
 {
-    let records_end = record_at(h.count as usize);
+    let records_end = record_at(h.edition, h.count as usize);
     (h.records_at as usize != HEADER_BYTES)
         | (h.vectors_at as usize != records_end)
         | (lent < records_end)

@@ -3,6 +3,7 @@ use ids::PortNo;
 use least::Found;
 use registers::Fpb;
 use registers::Mechanism;
+use registers::edition_of;
 use registers::port_at;
 use registers::record_at;
 use registers::sizes_of;
@@ -29,7 +30,7 @@ pub fn misplaced(s: &[u8], n: u8) -> Found
     requires { ⌜ n ≡ countOf (now s) ⌝ }
     ensures { λ r. ⌜ r ≡ misplacedIn (now (s .entry)) ⌝ }
 {
-    let mut offset: u64 = record_at(n as usize) as u64;
+    let mut offset: u64 = record_at(edition_of(s), n as usize) as u64;
     let mut p: u8 = 0;
     while p < n {
         let port = port_at(s, PortNo(p));

@@ -40,17 +40,22 @@ memoryBitsWrong b =
     || ltb 1 (b .«prefetchable_base» % 16)
     || not (eqb (b .«prefetchable_base» % 16) (b .«prefetchable_limit» % 16))
 
--- number 8
+-- number 8; 02, Item 8: "nonzero bytes at 58 join number 8"
 unfoldable pub settingsWrong : Port → Bool
 settingsWrong p =
     mechanismWrong (p .fpb) Rid
     || mechanismWrong (p .fpb) Low
     || mechanismWrong (p .fpb) High
     || memoryBitsWrong (p .bridge)
+    || not (eqb (p .zeros) 0)
 
 -- "Device Control 2 (2); bit 5 is ARI Forwarding Enable", "on a root or downstream port"
 unfoldable pub withAri : Port → Bool
 withAri p = not (eqb (p .kind) upstream) && eqb (field (p .«device_control_2») 5 1) 1
+
+-- 02, Item 8: "bit 2 (P2P Request Redirect)" of ACS Control
+unfoldable pub withRedirect : Port → Bool
+withRedirect p = eqb (field (p .«acs_control») 2 1) 1
 
 -- "Starts are multiples of the granularity."
 unfoldable pub startBroken : Fpb → Mechanism → Bool

@@ -15,6 +15,7 @@ use lent::u8_at;
 use lent::u16_at;
 use lent::u32_at;
 pub use records::HEADER_BYTES;
+pub use records::edition_of;
 pub use records::enables_of;
 pub use records::kind_at;
 pub use records::own_id_at;
@@ -25,9 +26,11 @@ pub use records::vectors_start;
 pub use rules::settings_wrong;
 pub use rules::start_wrong;
 pub use rules::with_ari;
+pub use rules::with_redirect;
 ghost use mathlib.Core.Path.{_≡_};
 ghost use Prim.Native.Nat.{_<_, _^_};
-ghost use Rattle.registers.specs.Record.{bridgeAt, fpbAt, portAt};
+ghost use Rattle.lent.specs.Lent.{u16At};
+ghost use Rattle.registers.specs.Record.{bridgeAt, fpbAt, inEdition2, portAt};
 
 // What a record is about: a Type 1 header's registers.
 pub struct Bridge {
@@ -68,6 +71,8 @@ pub struct Port {
     pub bridge: Bridge,
     pub fpb: Fpb,
     pub vectors_at: u32,
+    pub acs_control: u16,
+    pub zeros: u16,
 }
 
 // The Type 1 header registers of the record that starts at r.
@@ -104,11 +109,23 @@ fn fpb_at(s: &[u8], r: usize) -> Fpb
     }
 }
 
+// A field that records of 60 bytes alone have, 0 elsewhere.
+fn in_edition_2(s: &[u8], edition: u16, at: usize) -> u16
+    requires { ⌜ at < 2 ^ 23 ⌝ }
+    ensures { λ r. ⌜ r ≡ inEdition2 edition (u16At (now (s .entry)) at) ⌝ }
+{
+    if edition == 2 {
+        return u16_at(s, at);
+    }
+    0
+}
+
 // The record of port p.
 pub fn port_at(s: &[u8], p: PortNo) -> Port
     ensures { λ r. ⌜ r ≡ portAt (now (s .entry)) (p .0) ⌝ }
 {
-    let r = record_at(p.0 as usize);
+    let edition = records::edition_of(s);
+    let r = record_at(edition, p.0 as usize);
     Port {
         kind: u8_at(s, r),
         parent: PortNo(u8_at(s, r + 1)),
@@ -117,5 +134,7 @@ pub fn port_at(s: &[u8], p: PortNo) -> Port
         bridge: bridge_at(s, r),
         fpb: fpb_at(s, r),
         vectors_at: u32_at(s, r + 52),
+        acs_control: in_edition_2(s, edition, r + 56),
+        zeros: in_edition_2(s, edition, r + 58),
     }
 }

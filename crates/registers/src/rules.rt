@@ -11,7 +11,7 @@ use crate::fields::supported;
 use chassis::UPSTREAM;
 ghost use mathlib.Core.Path.{_≡_};
 ghost use Prim.Native.Nat.{_<_, _^_};
-ghost use Rattle.registers.specs.Rules.{sizeReserved, granularityAllowed, mechanismWrong, memoryBitsWrong, settingsWrong, withAri, startBroken, startWrong};
+ghost use Rattle.registers.specs.Rules.{sizeReserved, granularityAllowed, mechanismWrong, memoryBitsWrong, settingsWrong, withAri, withRedirect, startBroken, startWrong};
 
 // A size code that the table of settings does not have.
 fn size_reserved(f: Fpb, m: Mechanism) -> bool
@@ -69,6 +69,7 @@ pub fn settings_wrong(p: Port) -> bool
         | mechanism_wrong(f, Mechanism::Low)
         | mechanism_wrong(f, Mechanism::High)
         | memory_bits_wrong(b)
+        | (p.zeros != 0)
 }
 
 // ARI Forwarding Enable, which means nothing on an upstream port.
@@ -76,6 +77,13 @@ pub fn with_ari(p: Port) -> bool
     ensures { λ r. ⌜ r ≡ withAri p ⌝ }
 {
     (p.kind != UPSTREAM) & ((p.device_control_2 >> 5) % 2 == 1)
+}
+
+// P2P Request Redirect, bit 2 of ACS Control.
+pub fn with_redirect(p: Port) -> bool
+    ensures { λ r. ⌜ r ≡ withRedirect p ⌝ }
+{
+    (p.acs_control >> 2) % 2 == 1
 }
 
 // How many targets an entry stands for.

@@ -1,4 +1,5 @@
 // Where a packet goes: the rules of the walk on the bytes of a picture that reads, repeated until they come to an end.
+mod starts;
 mod steps;
 
 use chassis::End;
@@ -6,6 +7,7 @@ use chassis::Packet;
 use chassis::Step;
 use chassis::Whereabouts;
 use paths::Path;
+pub use starts::starts_at;
 ghost use mathlib.Core.Path.{_≡_};
 ghost use Rattle.chassis.proofs.Steps.{Within};
 ghost use Rattle.chassis.proofs.Tree.{Sane};

@@ -14,7 +14,7 @@ ghost use mathlib.Core.List.{List};
 ghost use mathlib.Core.Path.{_≡_};
 ghost use Rattle.chassis.specs.Tree.{root};
 ghost use Rattle.chassis.specs.Walk.{targetOf, functionNumber, decided, soleHolder, deviceOr, comeTo, next};
-ghost use Rattle.chassis.specs.Walk.{downward as Walk·downward, upward as Walk·upward, fromBelow, underType0, underType1, atPlace};
+ghost use Rattle.chassis.specs.Walk.{downward as Walk·downward, upward as Walk·upward, fromBelow, towardsRoot, underType0, underType1, atPlace};
 ghost use Rattle.trees.specs.Trees.{countOf};
 ghost use Rattle.claims.specs.Over.{chassisOver};
 
@@ -86,15 +86,17 @@ fn device_or(s: &[u8], n: u8, q: PortNo, function: u8) -> Step
     }
 }
 
-// Where a packet is that crossed a port upward to a place.
-fn come_to(place: PortNo) -> Whereabouts
-    ensures { λ r. ⌜ r ≡ comeTo (place .0) ⌝ }
+// Where a packet is that started at a place, or crossed a port upward to it.
+pub fn come_to(redirected: bool, place: PortNo) -> Whereabouts
+    ensures { λ r. ⌜ r ≡ comeTo redirected (place .0) ⌝ }
 {
     if place.0 == PortNo::ROOT.0 {
-        Whereabouts::Root
-    } else {
-        Whereabouts::From(place)
+        return Whereabouts::Root;
     }
+    if redirected {
+        return Whereabouts::Redirected(place);
+    }
+    Whereabouts::From(place)
 }
 
 // Rule 5.
@@ -104,7 +106,7 @@ fn upward<'a>(s: &'a [u8], patch: &'a [u8], t: Target, q: PortNo) -> Step
     if claims::claims(s, patch, q, t) {
         Step::Stop(End::Unsupported(q))
     } else {
-        Step::Cross(q, come_to(registers::parent_at(s, q)))
+        Step::Cross(q, come_to(false, registers::parent_at(s, q)))
     }
 }
 
@@ -147,6 +149,13 @@ fn from_below<'a>(s: &'a [u8], patch: &'a [u8], n: u8, packet: Packet, q: PortNo
     }
 }
 
+// Redirected: the port is crossed upward, whatever it and its siblings claim and whatever the patch.
+fn towards_root(s: &[u8], q: PortNo) -> Step
+    ensures { λ r. ⌜ ((patch : List ℕ) → r ≡ towardsRoot (chassisOver (now (s .entry)) patch) q) ⌝ }
+{
+    Step::Cross(q, come_to(true, registers::parent_at(s, q)))
+}
+
 // Below a port that made the request Type 0: own IDs alone are looked at.
 fn under_type0<'a>(s: &'a [u8], patch: &'a [u8], n: u8, t: Target, q: PortNo) -> Step
     requires { ⌜ n ≡ countOf (now s) ⌝ }
@@ -186,6 +195,7 @@ pub fn step<'a>(
         Whereabouts::Root => at_root(s, patch, n, packet),
         Whereabouts::Into(q) => from_above(s, patch, n, packet, q),
         Whereabouts::From(q) => from_below(s, patch, n, packet, q),
+        Whereabouts::Redirected(q) => towards_root(s, q),
         Whereabouts::Type0(q) => under_type0(s, patch, n, target_of(packet), q),
         Whereabouts::Type1(q) => under_type1(s, patch, n, target_of(packet), q),
     }

@@ -14,7 +14,7 @@ pub use Rattle.chassis.specs.declared.Packet.{Packet}
 pub use Rattle.chassis.specs.declared.Packet.the-variants.{Plain}
 pub use Rattle.chassis.specs.declared.Step.the-variants.{Cross}
 pub use Rattle.chassis.specs.declared.Whereabouts.{Whereabouts}
-pub use Rattle.chassis.specs.declared.Whereabouts.the-variants.{Root, Into, From, Type0, Type1}
+pub use Rattle.chassis.specs.declared.Whereabouts.the-variants.{Root, Into, From, Redirected, Type0, Type1}
 pub use Rattle.chassis.specs.Chassis.{Chassis, holds, lowestAt}
 pub use Rattle.chassis.specs.Tree.{root, isDevicePort}
-pub use Rattle.chassis.specs.Walk.{next, Walk}
+pub use Rattle.chassis.specs.Walk.{startsAt, next, Walk}

@@ -1,6 +1,6 @@
 -- The words of Walk, from where they are defined.
 pub use Prim.Native.Nat.{ℕ, _%_, _^_}
-pub use mathlib.Core.Bool.{cond}
+pub use mathlib.Core.Bool.{Bool, true, false, not, cond, _&&_}
 pub use mathlib.Core.List.{List, [], _∷_}
 pub use mathlib.Core.Path.{_≡_}
 pub use lib.Dec.{eqb}
@@ -18,7 +18,7 @@ pub use Rattle.chassis.specs.declared.Packet.the-variants.{Plain, Config
 pub use Rattle.chassis.specs.declared.Step.{Step}
 pub use Rattle.chassis.specs.declared.Step.the-variants.{Stop, Cross}
 pub use Rattle.chassis.specs.declared.Whereabouts.{Whereabouts}
-pub use Rattle.chassis.specs.declared.Whereabouts.the-variants.{Root, Into, From, Type0, Type1}
+pub use Rattle.chassis.specs.declared.Whereabouts.the-variants.{Root, Into, From, Redirected, Type0, Type1}
 pub use Rattle.ids.specs.Ids.{portNo}
 pub use Rattle.chassis.specs.Chassis.{Chassis, isOwn, holds, lowestAt}
 pub use Rattle.chassis.specs.Tree.{root, isDevicePort}

@@ -16,7 +16,7 @@ pub use Rattle.chassis.specs.declared.End.the-variants.{Function}
 pub use Rattle.chassis.specs.Chassis.{Chassis, holds, atLeastOne, holdOf, isHeld}
 pub use Rattle.chassis.specs.Findings.{Clashing, Says}
 pub use Rattle.chassis.specs.OneEnd.{InRange, OneEnd}
-pub use Rattle.chassis.specs.Walk.{Walk, comeTo}
+pub use Rattle.chassis.specs.Walk.{Walk, startsAt}
 pub use Rattle.paths.specs.declared.Path.{Path}
 pub use Rattle.picture.specs.declared.Header.{Header}
 pub use Rattle.registers.specs.declared.Mechanism.{Mechanism}

@@ -8,7 +8,7 @@ pub use Rattle.chassis.specs.declared.Packet.{Packet}
 pub use Rattle.chassis.specs.declared.Packet.the-variants.{Plain, Config}
 pub use Rattle.chassis.specs.Chassis.{Chassis}
 pub use Rattle.chassis.specs.Tree.{Tree, root, isDevicePort}
-pub use Rattle.chassis.specs.Walk.{comeTo}
+pub use Rattle.chassis.specs.Walk.{startsAt}
 pub use Rattle.paths.specs.Paths.{pathOf}
 pub use Rattle.picture.specs.declared.Reading.{Reading}
 pub use Rattle.picture.specs.declared.Reading.the-variants.{Read, Refused as NotRead}

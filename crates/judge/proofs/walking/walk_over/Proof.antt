@@ -20,17 +20,17 @@ returns c = gives-16 _ _ _ _ _ (sym (c .before .before .before .asked-wrongly .e
 packet-of-requires : tie.Need-packet-of-requires
 packet-of-requires c κs = id-fits _ _ _ _ (sym (c .before .asked-wrongly .ensures) ∙ c .if1 .left)
 
-start-of-requires : tie.Need-start-of-requires
-start-of-requires c κs = small-start (chassisOver (c .before .before .before .before .before .args .s .now) (c .before .before .before .before .before .args .patch .now)) (c .before .before .before .before .before .pre .1) _ _ _ (sym (c .before .before .asked-wrongly .ensures) ∙ c .before .if1 .left)
+cast-t11 : tie.Need-cast-t11
+cast-t11 c = record { fits = small-start (chassisOver (c .before .before .before .before .before .args .s .now) (c .before .before .before .before .before .args .patch .now)) (c .before .before .before .before .before .pre .1) _ _ _ (sym (c .before .before .asked-wrongly .ensures) ∙ c .before .if1 .left) }
 
 walk-from-requires : tie.Need-walk-from-requires
-walk-from-requires c κs = (c .before .before .before .before .before .before .pre .0, (c .before .before .before .before .before .before .pre .1, within-start (chassisOver (c .before .before .before .before .before .before .args .s .now) (c .before .before .before .before .before .before .args .patch .now)) (c .before .before .before .before .before .before .pre .1) _ _ _ (sym (c .before .before .before .asked-wrongly .ensures) ∙ c .before .before .if1 .left) (c .start-of .ensures)))
+walk-from-requires c κs = (c .before .before .before .before .before .before .pre .0, (c .before .before .before .before .before .before .pre .1, within-start (chassisOver (c .before .before .before .before .before .before .args .s .now) (c .before .before .before .before .before .before .args .patch .now)) (c .before .before .before .before .before .before .pre .1) _ _ _ (sym (c .before .before .before .asked-wrongly .ensures) ∙ c .before .before .if1 .left) _ (c .starts-at .ensures)))
 
 ended-requires : tie.Need-ended-requires
 ended-requires c κs = search needs
 
 returns-2 : tie.Need-returns-2
-returns-2 c = gives-end _ _ _ _ _ _ (sym (c .before .before .before .before .before .asked-wrongly .ensures) ∙ c .before .before .before .before .if1 .left) (c .before .before .before .packet-of .ensures) (c .before .before .start-of .ensures) (c .before .walk-from .ensures) (c .ended .ensures)
+returns-2 c = gives-end _ _ _ _ _ _ (sym (c .before .before .before .before .before .asked-wrongly .ensures) ∙ c .before .before .before .before .if1 .left) (c .before .before .before .packet-of .ensures) (c .before .before .starts-at .ensures) (c .before .walk-from .ensures) (c .ended .ensures)
 
 pub walk-over-spec : {M : Type 1} → statement M
 walk-over-spec =
@@ -41,7 +41,8 @@ walk-over-spec =
     refused-requires
     returns
     packet-of-requires
-    start-of-requires
+    cast-t11
+    (λ c κs. tt)
     walk-from-requires
     ended-requires
     returns-2)

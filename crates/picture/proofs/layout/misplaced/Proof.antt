@@ -1,7 +1,7 @@
 use Rattle.picture.proofs.Laws.{place-wrong, place-kept, misplaced-here, misplaced-end, misplaced-nowhere}
 use native.Mathlib.Numerals.{add-one}
 use native.Mathlib.Nat.{le-antisymm}
-use mathlib.Core.Path.{_∙_, ap}
+use mathlib.Core.Path.{_∙_, ap₂}
 use Rattle.registers.specs.Record.{recordAt}
 use Rattle.picture.specs.Layout.{runningOffset, placeWrong}
 use Rattle.least.proofs.Laws.{NoneIn, none-empty, none-more}
@@ -20,14 +20,14 @@ abbrev μ-loop : tie.MeasureT-loop
 
 loop-holds : tie.Need-loop-holds Inv-loop μ-loop
 unfolding runningOffset
-loop-holds c = (omega arith, c .record-at .ensures .0 ∙ ap recordAt (c .before .before .pre), omega arith, none-empty (omega arith))
+loop-holds c = (omega arith, c .record-at .ensures .0 ∙ ap₂ recordAt (c .before .edition-of .ensures) (c .before .before .before .pre), omega arith, none-empty (omega arith))
 
 cast-if1 : tie.Need-cast-if1 Inv-loop μ-loop
 cast-if1 c = omega (arith, c .struct-known .given)
 
 returns : tie.Need-returns Inv-loop μ-loop
 returns c =
-    misplaced-here _ _ (rw (← c .before .before .before .before .before .before .before .pre) (c .before .before .before .loop-test .taken))
+    misplaced-here _ _ (rw (← c .before .before .before .before .before .before .before .before .pre) (c .before .before .before .loop-test .taken))
     (place-wrong _ _ _ _ (c .before .before .port-at .ensures) (c .before .before .before .before .loop .inv .1) (c .if1 .taken)) (c .before .before .before .before .loop .inv .3)
 
 loop-again : tie.Need-loop-again Inv-loop μ-loop
@@ -41,12 +41,12 @@ loop-again c = (
 
 returns-2 : tie.Need-returns-2 Inv-loop μ-loop
 returns-2 c =
-    misplaced-end _ _ _ (le-antisymm (c .before .before .before .loop .inv .0) (c .before .before .loop-test .left) ∙ c .before .before .before .before .before .before .pre) (c .before .before .before .loop .inv .1)
+    misplaced-end _ _ _ (le-antisymm (c .before .before .before .loop .inv .0) (c .before .before .loop-test .left) ∙ c .before .before .before .before .before .before .before .pre) (c .before .before .before .loop .inv .1)
     (c .before .before .before .loop .inv .3) (c .before .if2 .taken)
 
 returns-3 : tie.Need-returns-3 Inv-loop μ-loop
 returns-3 c =
-    misplaced-nowhere _ _ _ (le-antisymm (c .before .before .loop .inv .0) (c .before .loop-test .left) ∙ c .before .before .before .before .before .pre) (c .before .before .loop .inv .1)
+    misplaced-nowhere _ _ _ (le-antisymm (c .before .before .loop .inv .0) (c .before .loop-test .left) ∙ c .before .before .before .before .before .before .pre) (c .before .before .loop .inv .1)
     (c .before .before .loop .inv .3) (c .if2 .left)
 
 pub misplaced-spec : {M : Type 1} → statement M
@@ -55,6 +55,7 @@ misplaced-spec =
     (tie.spec
     Inv-loop
     μ-loop
+    (λ c κs. tt)
     (λ c κs. omega arith)
     loop-holds
     (λ c κs. tt)

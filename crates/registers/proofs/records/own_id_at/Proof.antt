@@ -6,8 +6,8 @@ use Rattle.registers.proofs.records.own_id_at.Tie as tie
 
 returns : tie.Need-returns
 unfolding portAt
-returns c = rw (← c .before .record-at .ensures .0) (c .u16-at .ensures)
+returns c = rw (← c .before .record-in .ensures .0) (c .u16-at .ensures)
 
 pub own-id-at-spec : {M : Type 1} → statement M
 own-id-at-spec =
-    tie.close (tie.spec (λ c. omega arith) (λ c κs. search needs) (λ c. omega arith) (λ c κs. search needs) returns)
+    tie.close (tie.spec (λ c κs. tt) (λ c. omega arith) (λ c κs. search needs) returns)

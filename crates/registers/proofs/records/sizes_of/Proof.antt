@@ -4,11 +4,8 @@ use borrow.Author.Needs.{needs}
 use Rattle.registers.proofs.records.sizes_of.Statement.{statement}
 use Rattle.registers.proofs.records.sizes_of.Tie as tie
 
-cast-record-at : tie.Need-cast-record-at
-cast-record-at c = search needs
-
-record-at-requires : tie.Need-record-at-requires
-record-at-requires c κs = search needs
+record-in-requires : tie.Need-record-in-requires
+record-in-requires c κs = search needs
 
 add-u32-at : tie.Need-add-u32-at
 add-u32-at c = search needs
@@ -18,8 +15,8 @@ u32-at-requires c κs = search needs
 
 returns : tie.Need-returns
 unfolding portAt fpbAt
-returns c = sizes-same _ _ (rw (← c .before .record-at .ensures .0) (c .u32-at .ensures))
+returns c = sizes-same _ _ (rw (← c .before .record-in .ensures .0) (c .u32-at .ensures))
 
 pub sizes-of-spec : {M : Type 1} → statement M
 sizes-of-spec =
-    tie.close (tie.spec cast-record-at record-at-requires add-u32-at u32-at-requires returns)
+    tie.close (tie.spec record-in-requires add-u32-at u32-at-requires returns)

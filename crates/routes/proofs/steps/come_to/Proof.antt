@@ -9,7 +9,11 @@ returns c = rw (eq-eqb _ _ (c .if1 .taken))
 
 returns-2 : tie.Need-returns-2
 unfolding comeTo
-returns-2 c = rw (ne-eqb _ _ (c .if1 .left))
+returns-2 c = rw (ne-eqb _ _ (c .before .if1 .left), c .if2 .taken)
+
+returns-3 : tie.Need-returns-3
+unfolding comeTo
+returns-3 c = rw (ne-eqb _ _ (c .before .if1 .left), c .if2 .left)
 
 pub come-to-spec : {M : Type 1} → statement M
-come-to-spec = tie.close (tie.spec returns returns-2)
+come-to-spec = tie.close (tie.spec returns returns-2 returns-3)

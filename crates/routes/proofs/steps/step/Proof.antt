@@ -17,11 +17,15 @@ returns-3 c = rw (c .before .before .whereabouts2 .given .1) (c .from-below .ens
 
 returns-4 : tie.Need-returns-4
 unfolding next
-returns-4 c = rw (c .before .before .before .whereabouts3 .given .1, ← c .before .target-of .ensures) (c .under-type0 .ensures)
+returns-4 c = rw (c .before .before .whereabouts3 .given .1) (c .towards-root .ensures _)
 
 returns-5 : tie.Need-returns-5
 unfolding next
-returns-5 c = rw (c .before .before .before .whereabouts4 .given .1, ← c .before .target-of2 .ensures) (c .under-type1 .ensures)
+returns-5 c = rw (c .before .before .before .whereabouts4 .given .1, ← c .before .target-of .ensures) (c .under-type0 .ensures)
+
+returns-6 : tie.Need-returns-6
+unfolding next
+returns-6 c = rw (c .before .before .before .whereabouts5 .given .1, ← c .before .target-of2 .ensures) (c .under-type1 .ensures)
 
 pub step-spec : {M : Type 1} → statement M
 step-spec =
@@ -35,6 +39,8 @@ step-spec =
     (λ c κs. search needs)
     (λ c. search needs)
     (λ c κs. tt)
+    (λ c. search needs)
+    (λ c κs. tt)
     (λ c κs. search needs)
     (λ c. search needs)
     (λ c κs. tt)
@@ -43,4 +49,5 @@ step-spec =
     returns-2
     returns-3
     returns-4
-    returns-5)
+    returns-5
+    returns-6)
