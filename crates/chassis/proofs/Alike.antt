@@ -22,12 +22,11 @@ use Rattle.chassis.proofs.AlikeTrees.{AlikeTrees, Agree, any-agree}
 use Rattle.chassis.proofs.Tree.{Sane, other-parent}
 use Rattle.chassis.proofs.Verdicts.{verdict-says, verdict-exactly}
 
--- two chassis whose ports are alike
+-- two chassis whose ports are alike; whether they redirect is asked only where a packet starts
 pub record Alike (c d : Chassis) : Type 0 where
   pub trees : AlikeTrees (c .tree) (d .tree)
   pub ownId : (p : ℕ) → p < c .tree .count → c .ownId p ≡ d .ownId p
   pub ari : (p : ℕ) → p < c .tree .count → c .ari p ≡ d .ari p
-  pub redirect : (p : ℕ) → p < c .tree .count → c .redirect p ≡ d .redirect p
   pub decoders : (p : ℕ) → p < c .tree .count → (t : Target) → c .decoders p t ≡ d .decoders p t
   pub claims : (p : ℕ) → p < c .tree .count → (t : Target) → c .claims p t ≡ d .claims p t
   pub conversion : (p : ℕ) → p < c .tree .count → (t : Target) → c .conversion p t ≡ d .conversion p t

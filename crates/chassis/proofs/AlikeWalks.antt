@@ -100,16 +100,19 @@ module _ (c d : Chassis) (alike : Alike c d) where
   unfolding towardsRoot
   towards-root-alike q l = rw (alike .trees .parent (q .0) l)
 
-  redirected-alike : (packet : Packet) (p : ℕ) → p < c .tree .count → isRedirected c packet p ≡ isRedirected d packet p
+  redirected-alike : (packet : Packet) (p : ℕ) → p < c .tree .count → c .redirect p ≡ d .redirect p
+      → isRedirected c packet p ≡ isRedirected d packet p
   unfolding isRedirected
-  redirected-alike (Plain (Addr a)) p l = rw (alike .redirect p l, alike .claims p l (Addr a))
-  redirected-alike (Plain (Id rid)) p l = refl
-  redirected-alike (Config rid) p l = refl
+  redirected-alike (Plain (Addr a)) p l same = rw (same, alike .claims p l (Addr a))
+  redirected-alike (Plain (Id rid)) p l same = refl
+  redirected-alike (Config rid) p l same = refl
 
-  -- a packet starts alike in both
-  pub starts-alike : (packet : Packet) (p : ℕ) → (p ≡ root) ⊎ (p < c .tree .count) → startsAt c packet p ≡ startsAt d packet p
-  starts-alike packet p (inl top) = rw (top, comeTo-root (isRedirected c packet root), comeTo-root (isRedirected d packet root))
-  starts-alike packet p (inr l) = ap (λ (b : Bool). comeTo b p) (redirected-alike packet p l)
+  -- a packet starts alike in both, where ports that redirect are the same
+  pub starts-alike : Agree (c .tree .count) (c .redirect) (d .redirect) → (packet : Packet) (p : ℕ)
+      → (p ≡ root) ⊎ (p < c .tree .count) → startsAt c packet p ≡ startsAt d packet p
+  starts-alike same packet p (inl top) =
+      rw (top, comeTo-root (isRedirected c packet root), comeTo-root (isRedirected d packet root))
+  starts-alike same packet p (inr l) = ap (λ (b : Bool). comeTo b p) (redirected-alike packet p l (same p l))
 
   -- the rules give the same step in both
   pub next-alike : (packet : Packet) (w : Whereabouts) → Within c w → next c packet w ≡ next d packet w

@@ -5,6 +5,7 @@ use Prim.Native.Nat.{ℕ, _<_}
 use mathlib.Core.List.{List, []}
 use mathlib.Core.Path.{_≡_, refl, sym, ap}
 use Rattle.chassis.proofs.Alike.{Alike}
+use Rattle.chassis.proofs.AlikeTrees.{Agree}
 use Rattle.registers.specs.declared.Port.{Port}
 use Rattle.registers.specs.Record.{portAt}
 use Rattle.registers.specs.Rules.{withAri, withRedirect}
@@ -41,8 +42,11 @@ module _ (s patch : List ℕ) (h : Header) (a : Accepted s patch h) where
         trees = trees-patched s patch h a;
         ownId = λ p l. ap (λ (x : Port). x .«own_id» .0) (same-port p l);
         ari = λ p l. ap withAri (same-port p l);
-        redirect = λ p l. ap withRedirect (same-port p l);
         decoders = λ p l t i. decodersOf (same-port p l i) (same-vectors p l i) t;
         claims = λ p l t i. claimsTarget (same-port p l i) (same-vectors p l i) t;
         conversion = λ p l t i. convertedTarget (same-port p l i) (same-vectors p l i) t;
       }
+
+  -- and the same ports redirect
+  pub redirect-patched : Agree (countOf s) (chassisOver s patch .redirect) (chassisOf s′ .redirect)
+  redirect-patched p l = ap withRedirect (same-port p l)

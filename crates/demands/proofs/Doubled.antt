@@ -24,7 +24,7 @@ use Rattle.claims.specs.Claims.{chassisOf}
 use Rattle.judge.specs.declared.CheckAnswer.the-variants.{Judged}
 use Rattle.judge.specs.Checking.{checkOf, checkAnswer, checkFinding, checkNumber}
 use Rattle.demands.specs.Demands.{Overlap}
-use Rattle.demands.specs.Worked.{zeros, u16, u32, headerFor, recordOf, switchWith, doubled}
+use Rattle.demands.specs.Worked.{zeros, u16, u32, headerIn, recordOf, switchWith, doubled}
 use Rattle.demands.proofs.Demands.{overlap-exactly}
 use Rattle.demands.proofs.Tests.{either-or}
 use Rattle.demands.proofs.FourPorts.{fourPorts, reads, id, unshared-where}
@@ -35,19 +35,19 @@ c = chassisOf doubled
 -- below 0300h no ID is held by two ports, and none is claimed by the port whose own it is
 module _ (n : ℕ) (below : n < 0x0300) where
   unclaimed : c .claims 2 (id n) ≡ false
-  unfolding zeros u16 u32 headerFor recordOf switchWith u16At u32At bridgeAt fpbAt portAt recordAt busClaims vectorClaims idDecoders atLeastOne
+  unfolding zeros u16 u32 headerIn recordOf switchWith u16At u32At bridgeAt fpbAt portAt recordAt busClaims vectorClaims idDecoders atLeastOne
   unclaimed = rw (lt-leb 3 (busOf n) (omega arith))
 
   held-apart : (holds c (id n) 2 && holds c (id n) 3) ≡ false
-  unfolding zeros u16 u32 headerFor recordOf switchWith u16At u32At bridgeAt fpbAt portAt recordAt busClaims vectorClaims idDecoders atLeastOne holds
+  unfolding zeros u16 u32 headerIn recordOf switchWith u16At u32At bridgeAt fpbAt portAt recordAt busClaims vectorClaims idDecoders atLeastOne holds
   held-apart = either-or 0x0200 n (λ m. c .claims 2 (id m)) (λ m. holds c (id m) 3) refl (rw unclaimed)
 
   unshared : faulty Faulty·Shared c (id n) ≡ false
-  unfolding zeros u16 u32 headerFor recordOf switchWith u16At u32At bridgeAt fpbAt portAt recordAt busClaims vectorClaims idDecoders atLeastOne
+  unfolding zeros u16 u32 headerIn recordOf switchWith u16At u32At bridgeAt fpbAt portAt recordAt busClaims vectorClaims idDecoders atLeastOne
   unshared = unshared-where 3 n refl held-apart
 
 both-hold : faulty Faulty·Shared c (id 0x0300) ≡ true
-unfolding zeros u16 u32 headerFor recordOf switchWith u16At u32At bridgeAt fpbAt portAt recordAt busClaims vectorClaims idDecoders atLeastOne holds anyBelow clash clashesWith faulty
+unfolding zeros u16 u32 headerIn recordOf switchWith u16At u32At bridgeAt fpbAt portAt recordAt busClaims vectorClaims idDecoders atLeastOne holds anyBelow clash clashesWith faulty
 both-hold = refl
 
 least : leastTarget (faulty Faulty·Shared c) Ids ≡ At 0x0300
@@ -56,7 +56,7 @@ least =
     (record { from = zero-le; below = omega arith; holds = both-hold; first = record { none = λ n l below. unshared n below } })
 
 pair : (firstOfPair c (id 0x0300) ≡ portNo 2) × (lowestPort c (clash c (id 0x0300) 2) ≡ portNo 3)
-unfolding zeros u16 u32 headerFor recordOf switchWith u16At u32At bridgeAt fpbAt portAt recordAt busClaims vectorClaims idDecoders atLeastOne holds anyBelow clash clashesWith firstOf firstIn
+unfolding zeros u16 u32 headerIn recordOf switchWith u16At u32At bridgeAt fpbAt portAt recordAt busClaims vectorClaims idDecoders atLeastOne holds anyBelow clash clashesWith firstOf firstIn
 pair = (refl, refl)
 
 -- each holds it by its bus pair alone
@@ -69,7 +69,7 @@ byBus p =
     }
 
 by-bus : (holdOf c (id 0x0300) 2 ≡ byBus 2) × (holdOf c (id 0x0300) 3 ≡ byBus 3)
-unfolding zeros u16 u32 headerFor recordOf switchWith u16At u32At bridgeAt fpbAt portAt recordAt busClaims vectorClaims idDecoders
+unfolding zeros u16 u32 headerIn recordOf switchWith u16At u32At bridgeAt fpbAt portAt recordAt busClaims vectorClaims idDecoders
 by-bus = (refl, refl)
 
 -- the least such target is shown, with its ports and by what they hold it

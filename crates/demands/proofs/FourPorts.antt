@@ -20,7 +20,7 @@ use Rattle.picture.specs.declared.Reading.the-variants.{Read}
 use Rattle.picture.specs.Reading.{breaks, misplacedIn, portsReading, reading}
 use Rattle.claims.specs.Decoders.{busClaims, vectorClaims, idDecoders}
 use Rattle.claims.specs.Claims.{chassisOf}
-use Rattle.demands.specs.Worked.{zeros, u16, u32, headerFor, recordOf, switchWith}
+use Rattle.demands.specs.Worked.{zeros, u16, u32, headerIn, recordOf, switchWith}
 use Rattle.demands.proofs.Tests.{just}
 
 -- four ports, and no vectors
@@ -28,7 +28,7 @@ abbrev pub fourPorts : Header
 fourPorts = record { edition = 1; count = 4; total = 240; «records_at» = 16; «vectors_at» = 240 }
 
 pub reads : (bus : ℕ) → reading (switchWith bus) ≡ Read fourPorts
-unfolding zeros u16 u32 headerFor recordOf switchWith reading portsReading misplacedIn breaks runningOffset placeWrong endWrong headerOf lengthWrong editionWrong countWrong totalWrong offsetWrong sizeReserved granularityAllowed mechanismWrong memoryBitsWrong settingsWrong withAri startBroken startWrong settingsOf vectorBytes bridgeAt fpbAt portAt recordAt anyBelow upstreamBroken downstreamBroken treeBroken oneAbove above chainTooLong firstOf firstIn u16At u32At
+unfolding zeros u16 u32 headerIn recordOf switchWith reading portsReading misplacedIn breaks runningOffset placeWrong endWrong headerOf lengthWrong editionWrong countWrong totalWrong offsetWrong sizeReserved granularityAllowed mechanismWrong memoryBitsWrong settingsWrong withAri startBroken startWrong settingsOf vectorBytes bridgeAt fpbAt portAt recordAt anyBelow upstreamBroken downstreamBroken treeBroken oneAbove above chainTooLong firstOf firstIn u16At u32At
 reads bus = refl
 
 abbrev pub id : ℕ → Target
@@ -38,7 +38,7 @@ id n = Id (record { 0 = n })
 pub unshared-where : (bus n : ℕ) → chassisOf (switchWith bus) .claims 3 (id 0x0208) ≡ false
     → (holds (chassisOf (switchWith bus)) (id n) 2 && holds (chassisOf (switchWith bus)) (id n) 3) ≡ false
     → faulty Shared (chassisOf (switchWith bus)) (id n) ≡ false
-unfolding zeros u16 u32 headerFor recordOf switchWith u16At u32At bridgeAt fpbAt portAt recordAt busClaims vectorClaims idDecoders atLeastOne anyBelow clash clashesWith faulty
+unfolding zeros u16 u32 headerIn recordOf switchWith u16At u32At bridgeAt fpbAt portAt recordAt busClaims vectorClaims idDecoders atLeastOne anyBelow clash clashesWith faulty
 unshared-where bus n own apart =
     simp (
       just 0x0008 n (λ m. chassisOf (switchWith bus) .claims 0 (id m)) refl,

@@ -10,4 +10,5 @@ pub mod WorkedWalks
 pub mod Doubled
 pub mod WorkedTrial
 pub mod WorkedVideo
+pub mod WorkedRedirect
 pub mod WorkedChain

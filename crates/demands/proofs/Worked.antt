@@ -29,7 +29,7 @@ use Rattle.claims.specs.Claims.{chassisOf}
 use Rattle.claims.proofs.Converts.{takes-what}
 use Rattle.claims.proofs.Joined.{claims-id}
 use Rattle.judge.specs.Checking.{checkOf, checkAnswer, checkFinding, checkNumber}
-use Rattle.demands.specs.Worked.{zeros, u16, u32, headerFor, recordOf, switchWith, worked}
+use Rattle.demands.specs.Worked.{zeros, u16, u32, headerIn, recordOf, switchWith, worked}
 use Rattle.demands.proofs.Demands.{demand-3}
 use Rattle.demands.proofs.Tests.{either-or, empty, apart, within, elsewhere, never-both}
 use Rattle.demands.proofs.FourPorts.{fourPorts, reads, id, unshared-where}
@@ -46,7 +46,7 @@ buses : (n : ℕ)
     × (c .claims 1 (id n) ≡ between 2 4 (busOf n))
     × (c .claims 2 (id n) ≡ between 3 3 (busOf n))
     × (c .claims 3 (id n) ≡ between 4 4 (busOf n))
-unfolding zeros u16 u32 headerFor recordOf switchWith u16At u32At bridgeAt fpbAt portAt recordAt busClaims vectorClaims
+unfolding zeros u16 u32 headerIn recordOf switchWith u16At u32At bridgeAt fpbAt portAt recordAt busClaims vectorClaims
 buses n = (claims-id _ _ n ∙ or-false _, claims-id _ _ n ∙ or-false _, claims-id _ _ n ∙ or-false _, claims-id _ _ n ∙ or-false _)
 
 windows : (a : ℕ)
@@ -54,7 +54,7 @@ windows : (a : ℕ)
     × (c .claims 1 (Addr a) ≡ between 0xE0000000 0xE00FFFFF a)
     × (c .claims 2 (Addr a) ≡ between 0xE0000000 0xE00FFFFF a)
     × (c .claims 3 (Addr a) ≡ false)
-unfolding zeros u16 u32 headerFor recordOf switchWith u16At u32At bridgeAt fpbAt portAt recordAt vectorClaims memoryClaims prefetchableClaims lowClaims highClaims vgaEnabled videoClaims memorySpaceEnabled addressDecoders atLeastOne
+unfolding zeros u16 u32 headerIn recordOf switchWith u16At u32At bridgeAt fpbAt portAt recordAt vectorClaims memoryClaims prefetchableClaims lowClaims highClaims vgaEnabled videoClaims memorySpaceEnabled addressDecoders atLeastOne
 windows a = (only-window, only-window, only-window, refl)
   where
     only-window : ((((between 0xE0000000 0xE00FFFFF a || between 0xFFF00000 0x000FFFFF a) || ltb a (2 ^ 32) && false) || leb (2 ^ 32) a && false) || false)
@@ -64,7 +64,7 @@ windows a = (only-window, only-window, only-window, refl)
 -- no ID is held by the two downstream ports, and what a port holds is claimed by its parent
 module _ (n : ℕ) where
   held-apart : (holds c (id n) 2 && holds c (id n) 3) ≡ false
-  unfolding zeros u16 u32 headerFor recordOf switchWith u16At u32At bridgeAt fpbAt portAt recordAt busClaims vectorClaims idDecoders atLeastOne holds
+  unfolding zeros u16 u32 headerIn recordOf switchWith u16At u32At bridgeAt fpbAt portAt recordAt busClaims vectorClaims idDecoders atLeastOne holds
   held-apart =
       either-or 0x0200 n (λ m. c .claims 2 (id m)) (λ m. holds c (id m) 3) refl
       (and-comm (c .claims 2 (id n)) (holds c (id n) 3)
@@ -73,11 +73,11 @@ module _ (n : ℕ) where
       ∙ rw (buses n .2, buses n .3) (apart 3 3 4 4 (busOf n) (omega arith))))
 
   unshared-id : faulty Shared c (id n) ≡ false
-  unfolding zeros u16 u32 headerFor recordOf switchWith u16At u32At bridgeAt fpbAt portAt recordAt busClaims vectorClaims idDecoders atLeastOne
+  unfolding zeros u16 u32 headerIn recordOf switchWith u16At u32At bridgeAt fpbAt portAt recordAt busClaims vectorClaims idDecoders atLeastOne
   unshared-id = unshared-where 4 n refl held-apart
 
   unstrayed-id : faulty Stray c (id n) ≡ false
-  unfolding zeros u16 u32 headerFor recordOf switchWith u16At u32At bridgeAt fpbAt portAt recordAt busClaims vectorClaims idDecoders atLeastOne holds anyBelow straysAt faulty
+  unfolding zeros u16 u32 headerIn recordOf switchWith u16At u32At bridgeAt fpbAt portAt recordAt busClaims vectorClaims idDecoders atLeastOne holds anyBelow straysAt faulty
   unstrayed-id =
       simp (
         either-or 0x0100 n (λ m. c .claims 1 (id m)) (λ m. not (c .claims 0 (id m))) refl
@@ -91,11 +91,11 @@ module _ (n : ℕ) where
   -- what the two ports with children take: their bus Secondary
   taken-buses : (takes (c .conversion 0 (id n)) ≡ (c .claims 0 (id n) && (between 1 4 (busOf n) && eqb (busOf n) 1)))
       × (takes (c .conversion 1 (id n)) ≡ (c .claims 1 (id n) && (between 2 4 (busOf n) && eqb (busOf n) 2)))
-  unfolding zeros u16 u32 headerFor recordOf switchWith u16At u32At bridgeAt fpbAt portAt recordAt busClaims
+  unfolding zeros u16 u32 headerIn recordOf switchWith u16At u32At bridgeAt fpbAt portAt recordAt busClaims
   taken-buses = (takes-what _ _ n, takes-what _ _ n)
 
   untaken-id : faulty Taken c (id n) ≡ false
-  unfolding zeros u16 u32 headerFor recordOf switchWith u16At u32At bridgeAt fpbAt portAt recordAt anyBelow takenAt faulty
+  unfolding zeros u16 u32 headerIn recordOf switchWith u16At u32At bridgeAt fpbAt portAt recordAt anyBelow takenAt faulty
   untaken-id =
       rw (taken-buses .0, taken-buses .1, buses n .1, buses n .2, buses n .3)
       (simp (
@@ -105,16 +105,16 @@ module _ (n : ℕ) where
       ))
 
   unshared-address : faulty Shared c (Addr n) ≡ false
-  unfolding zeros u16 u32 headerFor recordOf switchWith u16At u32At portAt recordAt holds anyBelow clash clashesWith faulty
+  unfolding zeros u16 u32 headerIn recordOf switchWith u16At u32At portAt recordAt holds anyBelow clash clashesWith faulty
   unshared-address = simp (windows n .3, and-false)
 
   unstrayed-address : faulty Stray c (Addr n) ≡ false
-  unfolding zeros u16 u32 headerFor recordOf switchWith u16At u32At portAt recordAt holds anyBelow straysAt faulty
+  unfolding zeros u16 u32 headerIn recordOf switchWith u16At u32At portAt recordAt holds anyBelow straysAt faulty
   unstrayed-address = simp (windows n .0, windows n .1, windows n .2, windows n .3, never-both)
 
 -- no own ID is lost
 kept : anyBelow (ownIdLost c) (c .tree .count) ≡ false
-unfolding zeros u16 u32 headerFor recordOf switchWith u16At u32At bridgeAt fpbAt portAt recordAt withAri busClaims vectorClaims idDecoders atLeastOne inSecondaryRange convertedByBus converted anyBelow ownIdLost
+unfolding zeros u16 u32 headerIn recordOf switchWith u16At u32At bridgeAt fpbAt portAt recordAt withAri busClaims vectorClaims idDecoders atLeastOne inSecondaryRange convertedByBus converted anyBelow ownIdLost
 kept = refl
 
 says-clear : Says c Clear

@@ -30,7 +30,7 @@ use Rattle.claims.specs.Decoders.{between, busClaims, vectorClaims, memoryClaim
 use Rattle.claims.specs.Claims.{chassisOf}
 use Rattle.judge.specs.declared.CheckAnswer.the-variants.{Judged}
 use Rattle.judge.specs.Checking.{checkOf, checkAnswer}
-use Rattle.demands.specs.Worked.{zeros, u16, u32, headerFor, displayOf, displays}
+use Rattle.demands.specs.Worked.{zeros, u16, u32, headerIn, displayOf, displays}
 use Rattle.demands.proofs.Tests.{just, empty}
 use Rattle.demands.proofs.FourPorts.{id}
 
@@ -42,12 +42,12 @@ abbrev twoPorts : Header
 twoPorts = record { edition = 1; count = 2; total = 128; «records_at» = 16; «vectors_at» = 128 }
 
 displays-read : reading displays ≡ Read twoPorts
-unfolding zeros u16 u32 headerFor displayOf displays reading portsReading misplacedIn breaks runningOffset placeWrong endWrong headerOf lengthWrong editionWrong countWrong totalWrong offsetWrong sizeReserved granularityAllowed mechanismWrong memoryBitsWrong settingsWrong withAri startBroken startWrong settingsOf vectorBytes bridgeAt fpbAt portAt recordAt anyBelow treeBroken oneAbove above chainTooLong firstOf firstIn u16At u32At
+unfolding zeros u16 u32 headerIn displayOf displays reading portsReading misplacedIn breaks runningOffset placeWrong endWrong headerOf lengthWrong editionWrong countWrong totalWrong offsetWrong sizeReserved granularityAllowed mechanismWrong memoryBitsWrong settingsWrong withAri startBroken startWrong settingsOf vectorBytes bridgeAt fpbAt portAt recordAt anyBelow treeBroken oneAbove above chainTooLong firstOf firstIn u16At u32At
 displays-read = refl
 
 -- below A0000h no address is claimed
 unclaimed : (a : ℕ) → a < 0xA0000 → (c .claims 0 (Addr a) ≡ false) × (c .claims 1 (Addr a) ≡ false)
-unfolding zeros u16 u32 headerFor displayOf displays u16At u32At bridgeAt fpbAt portAt recordAt vectorClaims memoryClaims prefetchableClaims lowClaims highClaims vgaEnabled videoClaims memorySpaceEnabled addressDecoders atLeastOne
+unfolding zeros u16 u32 headerIn displayOf displays u16At u32At bridgeAt fpbAt portAt recordAt vectorClaims memoryClaims prefetchableClaims lowClaims highClaims vgaEnabled videoClaims memorySpaceEnabled addressDecoders atLeastOne
 unclaimed a below = (nothing, nothing)
   where
     nothing : (((((between 0xFFF00000 0x000FFFFF a || between 0xFFF00000 0x000FFFFF a) || ltb a (2 ^ 32) && false) || leb (2 ^ 32) a && false)
@@ -56,12 +56,12 @@ unclaimed a below = (nothing, nothing)
     nothing = simp (empty 0xFFF00000 0x000FFFFF a (omega arith), and-false, lt-leb 0xA0000 a below)
 
 unshared-address : (a : ℕ) → a < 0xA0000 → faulty Faulty·Shared c (Addr a) ≡ false
-unfolding zeros u16 u32 headerFor displayOf displays u16At u32At portAt recordAt holds anyBelow clash clashesWith faulty
+unfolding zeros u16 u32 headerIn displayOf displays u16At u32At portAt recordAt holds anyBelow clash clashesWith faulty
 unshared-address a below = simp (unclaimed a below .0, unclaimed a below .1)
 
 -- no ID is claimed, and each port has an ID of its own
 unshared-id : (n : ℕ) → faulty Faulty·Shared c (id n) ≡ false
-unfolding zeros u16 u32 headerFor displayOf displays u16At u32At bridgeAt fpbAt portAt recordAt busClaims vectorClaims idDecoders atLeastOne holds anyBelow clash clashesWith faulty
+unfolding zeros u16 u32 headerIn displayOf displays u16At u32At bridgeAt fpbAt portAt recordAt busClaims vectorClaims idDecoders atLeastOne holds anyBelow clash clashesWith faulty
 unshared-id n = simp (and-false, or-false, just 0x0008 n (eqb 0x0010) refl, just 0x0010 n (eqb 0x0008) refl)
 
 -- the lowest two ports
@@ -84,7 +84,7 @@ byVga p =
     }
 
 says-displays : Says c (Shared (Addr 0xA0000) (byVga 0) (byVga 1))
-unfolding zeros u16 u32 headerFor displayOf displays u16At u32At bridgeAt fpbAt portAt recordAt vectorClaims memoryClaims prefetchableClaims lowClaims highClaims vgaEnabled videoClaims memorySpaceEnabled addressDecoders atLeastOne holds anyBelow clash clashesWith faulty
+unfolding zeros u16 u32 headerIn displayOf displays u16At u32At bridgeAt fpbAt portAt recordAt vectorClaims memoryClaims prefetchableClaims lowClaims highClaims vgaEnabled videoClaims memorySpaceEnabled addressDecoders atLeastOne holds anyBelow clash clashesWith faulty
 says-displays = (record { in-range = omega arith; passes = refl; first = first; port = first-is refl }, second-is refl refl, refl, refl)
   where
     first : (u : Target) → Earlier u (Addr 0xA0000) → faulty Faulty·Shared c u ≡ false

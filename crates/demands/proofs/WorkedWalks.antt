@@ -21,7 +21,7 @@ use Rattle.picture.specs.Reading.{reading}
 use Rattle.judge.specs.Asking.{targetAsked, idTooLarge}
 use Rattle.judge.specs.Walking.{packetOf, isStart, askedWrongly, endedWalk, WalkGives}
 use Rattle.trees.specs.Trees.{treeOf}
-use Rattle.demands.specs.Worked.{zeros, u16, u32, headerFor, recordOf, switchWith, worked, doubled, portNos, cameTo, WorkedWalks}
+use Rattle.demands.specs.Worked.{zeros, u16, u32, headerIn, recordOf, switchWith, worked, doubled, portNos, cameTo, WorkedWalks}
 use Rattle.demands.proofs.FourPorts.{fourPorts, reads}
 
 -- an answer that the rules lead to is given
@@ -39,7 +39,7 @@ given s h is kind start target crossed end right walk =
     ))
 
 pub worked-walks : WorkedWalks
-unfolding zeros u16 u32 headerFor recordOf switchWith u16At u32At bridgeAt fpbAt portAt recordAt withAri withRedirect busClaims vectorClaims memoryClaims prefetchableClaims lowClaims highClaims vgaEnabled videoClaims memorySpaceEnabled idDecoders atLeastOne addressDecoders inSecondaryRange convertedByBus converted holds withPort lowestTwo passesAt anyBelow isDevicePort functionNumber decided downward byHolders soleHolder deviceOr comeTo isRedirected upward fromBelow underType0 underType1 next targetAsked packetOf idTooLarge isStart askedWrongly
+unfolding zeros u16 u32 headerIn recordOf switchWith u16At u32At bridgeAt fpbAt portAt recordAt withAri withRedirect busClaims vectorClaims memoryClaims prefetchableClaims lowClaims highClaims vgaEnabled videoClaims memorySpaceEnabled idDecoders atLeastOne addressDecoders inSecondaryRange convertedByBus converted holds withPort lowestTwo passesAt anyBelow isDevicePort functionNumber decided downward byHolders soleHolder deviceOr comeTo isRedirected upward fromBelow underType0 underType1 next targetAsked packetOf idTooLarge isStart askedWrongly
 worked-walks =
     record {
       down = given worked fourPorts (reads 4) 0 255 0x0300 (0 ∷ 1 ∷ 2 ∷ []) (Device (portNo 2) 0) refl (goes refl (goes refl (goes refl (ends refl))));

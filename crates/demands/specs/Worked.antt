@@ -2,7 +2,8 @@
 -- downstream ports. It passes the check (proofs/Worked.antt), and walks through it are computed (proofs/WorkedWalks.antt); a picture
 -- that differs in one port's bus fails (proofs/Doubled.antt), and so does one of two displays (proofs/WorkedVideo.antt). Of two chains
 -- that differ in one register the host finds every port of one, which passes, and loses one of the other, whose only fault is 18
--- (proofs/WorkedChain.antt). With patches, so that no trial is empty either: proofs/WorkedTrial.antt.
+-- (proofs/WorkedChain.antt). The switch in edition 2 passes too, and redirects (proofs/WorkedRedirect.antt). With patches, so that no
+-- trial is empty either: proofs/WorkedTrial.antt.
 use Prim.Native.Nat.{ℕ, zero, suc, _+_, _*_, _/_, _%_}
 use mathlib.Core.List.{List, [], _∷_, _++_}
 use Rattle.chassis.specs.declared.End.{End}
@@ -25,14 +26,17 @@ u16 n = n % 256 ∷ n / 256 ∷ []
 unfoldable pub u32 : ℕ → List ℕ
 u32 n = u16 (n % 65536) ++ u16 (n / 65536)
 
--- edition 1, and no vectors: they would start at the end
-unfoldable pub headerFor : ℕ → List ℕ
-headerFor count = u16 1 ++ u16 count ++ u32 (16 + 56 * count) ++ u32 16 ++ u32 (16 + 56 * count)
+-- an edition, its records so long, and no vectors: they would start at the end
+unfoldable pub headerIn : ℕ → ℕ → ℕ → List ℕ
+headerIn edition bytes count = u16 edition ++ u16 count ++ u32 (16 + bytes * count) ++ u32 16 ++ u32 (16 + bytes * count)
+
+abbrev pub headerFor : ℕ → List ℕ
+headerFor count = headerIn 1 56 count
 
 -- Memory E0000000h to E00FFFFFh, which a Command of 2 enables; Prefetchable Base FFF0h above Limit 0; the rest 0, but for where the
--- vectors of a picture of four ports would start
-unfoldable pub recordOf : ℕ → ℕ → ℕ → ℕ → ℕ → ℕ → List ℕ
-recordOf kind parent own command secondary subordinate =
+-- vectors would start
+unfoldable pub recordOf : ℕ → ℕ → ℕ → ℕ → ℕ → ℕ → ℕ → List ℕ
+recordOf kind parent own command secondary subordinate vectors =
     (kind ∷ parent ∷ [])
     ++ u16 own
     ++ u16 command
@@ -41,16 +45,16 @@ recordOf kind parent own command secondary subordinate =
     ++ u16 0xE000
     ++ u16 0xFFF0
     ++ zeros 38
-    ++ u32 240
+    ++ u32 vectors
 
 -- ports 0 root, 1 upstream, 2 and 3 downstream; the latter has one bus, and no Memory Space Enable
 unfoldable pub switchWith : ℕ → List ℕ
 switchWith bus =
     headerFor 4
-    ++ recordOf 0 255 0x0008 2 1 4
-    ++ recordOf 1 0 0x0100 2 2 4
-    ++ recordOf 2 1 0x0200 2 3 3
-    ++ recordOf 2 1 0x0208 0 bus bus
+    ++ recordOf 0 255 0x0008 2 1 4 240
+    ++ recordOf 1 0 0x0100 2 2 4 240
+    ++ recordOf 2 1 0x0200 2 3 3 240
+    ++ recordOf 2 1 0x0208 0 bus bus 240
 
 abbrev pub worked : List ℕ
 worked = switchWith 4
@@ -58,6 +62,15 @@ worked = switchWith 4
 -- both downstream ports have bus 3
 abbrev pub doubled : List ℕ
 doubled = switchWith 3
+
+-- the worked chassis in edition 2: ACS Control of 4, P2P Request Redirect alone, at port 2, and this one at port 3
+unfoldable pub redirecting : ℕ → List ℕ
+redirecting acs =
+    headerIn 2 60 4
+    ++ (recordOf 0 255 0x0008 2 1 4 256 ++ zeros 4)
+    ++ (recordOf 1 0 0x0100 2 2 4 256 ++ zeros 4)
+    ++ (recordOf 2 1 0x0200 2 3 3 256 ++ u16 4 ++ zeros 2)
+    ++ (recordOf 2 1 0x0208 0 4 4 256 ++ u16 acs ++ zeros 2)
 
 -- a root port with Memory Space Enable and VGA Enable (Bridge Control 8), without buses, windows and vectors
 unfoldable pub displayOf : ℕ → List ℕ
@@ -157,3 +170,17 @@ pub record ChainWalks : Type 0 where
   pub upstream-still : WalkGives takenChain 2 255 0x0100 (cameTo (Function (portNo 1)) (0 ∷ []))
   -- the root port takes this one as its own, as Type 0, and below it no port has that ID
   pub downstream-lost : WalkGives takenChain 2 255 0x0200 (cameTo (Unsupported (portNo 0)) (0 ∷ []))
+
+-- Walks through the chassis in edition 2.
+pub record RedirectWalks : Type 0 where
+  -- an address that port 3 does not claim goes up to the root and comes down again, to the device below port 2, or ends at the host
+  pub down-again : WalkGives (redirecting 4) 1 3 0xE0000000 (cameTo (Device (portNo 2) 0) (3 ∷ 1 ∷ 0 ∷ 0 ∷ 1 ∷ 2 ∷ []))
+  pub to-host : WalkGives (redirecting 4) 1 3 0 (cameTo Host (3 ∷ 1 ∷ 0 ∷ []))
+  -- with every other bit of ACS Control it goes across the switch
+  pub other-bits : WalkGives (redirecting 0xFFFB) 1 3 0xE0000000 (cameTo (Device (portNo 2) 0) (3 ∷ 2 ∷ []))
+  -- port 2 refuses what it claims to its own device
+  pub own-device : WalkGives (redirecting 4) 1 2 0xE0000000 (cameTo (Unsupported (portNo 2)) [])
+  -- an ID and a configuration request are not redirected, nor is what comes from the host
+  pub id-across : WalkGives (redirecting 4) 0 3 0x0300 (cameTo (Device (portNo 2) 0) (3 ∷ 2 ∷ []))
+  pub configures : WalkGives (redirecting 4) 2 3 0x0300 (cameTo (Unsupported (portNo 3)) [])
+  pub from-host : WalkGives (redirecting 4) 1 255 0xE0000000 (cameTo (Device (portNo 2) 0) (0 ∷ 1 ∷ 2 ∷ []))

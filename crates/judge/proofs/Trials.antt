@@ -25,7 +25,7 @@ use Rattle.patches.proofs.Accepted.{Accepted, accepted}
 use Rattle.patches.proofs.PatchedReads.{trees-patched, patched-reads}
 use Rattle.claims.specs.Claims.{chassisOf}
 use Rattle.claims.specs.Over.{chassisOver}
-use Rattle.claims.proofs.Over.{alike-patched}
+use Rattle.claims.proofs.Over.{alike-patched, redirect-patched}
 use Rattle.judge.specs.declared.CheckAnswer.the-variants.{Refused, Judged}
 use Rattle.judge.specs.declared.WalkAnswer.{WalkAnswer}
 use Rattle.judge.specs.Checking.{checkOf, checkAnswer}
@@ -79,7 +79,8 @@ module _ (s patch : List ℕ) (h : Header) (read : readingWith s patch ≡ Read 
         crossed = gives .1 .crossed;
         walk =
             subst (λ (from : Whereabouts). Walk (chassisOf s′) packet from (gives .1 .crossed) (gives .0 .end))
-            (starts-alike (chassisOver s patch) (chassisOf s′) alike packet start (started (chassisOver s patch) sane-tried kind start target asked))
+            (starts-alike (chassisOver s patch) (chassisOf s′) alike (redirect-patched s patch h taken) packet start
+            (started (chassisOver s patch) sane-tried kind start target asked))
             (walk-alike (chassisOver s patch) (chassisOf s′) alike sane-tried packet (startsAt (chassisOver s patch) packet start)
             (gives .1 .crossed) (gives .0 .end) (within-start (chassisOver s patch) sane-tried kind start target asked packet refl) (gives .1 .walk));
         named = gives .1 .named;
