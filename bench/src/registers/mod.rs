@@ -16,6 +16,7 @@ pub use crate::registers::fields::vector_bytes;
 pub use crate::registers::rules::settings_wrong;
 pub use crate::registers::rules::start_wrong;
 pub use crate::registers::rules::with_ari;
+pub use crate::registers::rules::with_redirect;
 
 // What a record is about: a Type 1 header's registers.
 #[derive(Clone, Copy)]

@@ -16,13 +16,12 @@ use Rattle.least.specs.Least.{firstIn, orElse}
 use Rattle.registers.specs.declared.Fpb.{Fpb}
 use Rattle.registers.specs.declared.Mechanism.{Mechanism}
 use Rattle.registers.specs.declared.Mechanism.the-variants.{Rid, Low, High}
-use Rattle.registers.specs.declared.Port.{Port}
 use Rattle.registers.specs.Record.{portAt}
 use Rattle.registers.specs.Vectors.{vectorBytes}
 use Rattle.trees.specs.Trees.{countOf}
 use Rattle.picture.specs.declared.Header.{Header}
 use Rattle.picture.specs.Header.{headerOf, countWrong}
-use Rattle.picture.specs.Layout.{runningOffset, placeWrong, endWrong, offsetIn}
+use Rattle.picture.specs.Layout.{allBytes, runningOffset, placeWrong, endWrong, offsetIn}
 use Rattle.picture.specs.declared.Reading.{Reading}
 use Rattle.picture.specs.declared.Reading.the-variants.{Read, Refused}
 use Rattle.picture.specs.declared.Refusal.{Refusal}
@@ -32,14 +31,18 @@ use Rattle.picture.specs.Onward.{isPort, thenAt}
 use Rattle.picture.specs.Reading.{breaks, misplacedIn, refusedAt, portsReading}
 
 -- whether a port's vectors start at the running offset
-module _ (s : List ℕ) (p offset : ℕ) (port : Port) (is : port ≡ portAt s p) (at : offset ≡ runningOffset s p) where
-  pub place-wrong : (port .«vectors_at» ≡ offset → ⊥) → placeWrong s p ≡ true
+module _ (s : List ℕ) (p offset start : ℕ) (is : start ≡ portAt s p .«vectors_at») (at : offset ≡ runningOffset s p) where
+  pub place-wrong : (start ≡ offset → ⊥) → placeWrong s p ≡ true
   unfolding placeWrong
   place-wrong differs = rw (← is, ← at, ne-eqb _ _ differs)
 
-  pub place-kept : port .«vectors_at» ≡ offset → placeWrong s p ≡ false
+  pub place-kept : start ≡ offset → placeWrong s p ≡ false
   unfolding placeWrong
   place-kept same = rw (← is, ← at, eq-eqb _ _ same)
+
+-- the bytes of a port's vectors are so many as their sizes say
+pub all-bytes-same : (f g : Fpb) → ((m : Mechanism) → vectorBytes f m ≡ vectorBytes g m) → allBytes f ≡ allBytes g
+all-bytes-same f g same = rw (same Rid, same Low, same High)
 
 -- number 10 at a port, at the end and nowhere
 pub misplaced-here : (s : List ℕ) (p : ℕ) → p < countOf s → placeWrong s p ≡ true → NoneIn (placeWrong s) 0 p → At p ≡ misplacedIn s

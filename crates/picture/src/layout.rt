@@ -4,7 +4,6 @@ use least::Found;
 use registers::Fpb;
 use registers::Mechanism;
 use registers::edition_of;
-use registers::port_at;
 use registers::record_at;
 use registers::sizes_of;
 use registers::vector_bytes;
@@ -33,12 +32,10 @@ pub fn misplaced(s: &[u8], n: u8) -> Found
     let mut offset: u64 = record_at(edition_of(s), n as usize) as u64;
     let mut p: u8 = 0;
     while p < n {
-        let port = port_at(s, PortNo(p));
-        if port.vectors_at as u64 != offset {
+        if vectors_start(s, PortNo(p)) as u64 != offset {
             return Found::At(p as u64);
         }
-        let f = port.fpb;
-        offset += all_bytes(f);
+        offset += all_bytes(sizes_of(s, PortNo(p)));
         p += 1;
     }
     if offset != s.len() as u64 {

@@ -6,7 +6,7 @@ use ids::PortNo;
 use registers::kind_at;
 use registers::parent_at;
 ghost use mathlib.Core.Path.{_≡_};
-ghost use Rattle.chassis.specs.Tree.{hasChildBelow, isDevicePort, upstreamBroken, downstreamBroken, treeBroken, oneAbove, chainTooLong};
+ghost use Rattle.chassis.specs.Tree.{hasChildBelow, isDevicePort, upstreamBroken, downstreamBroken, treeBroken, chainTooLong};
 ghost use Rattle.trees.specs.Trees.{countOf, treeOf};
 
 // Whether one of the ports below number n is a child of q.
@@ -60,16 +60,6 @@ pub fn tree_broken(s: &[u8], p: PortNo) -> bool
     !(parent.0 < p.0) | ((kind != DOWNSTREAM) | downstream_broken(s, p))
 }
 
-// The port above p, and 255 once the root is reached.
-fn step_up(s: &[u8], p: PortNo) -> PortNo
-    ensures { λ r. ⌜ r .0 ≡ oneAbove (treeOf (now (s .entry))) (p .0) ⌝ }
-{
-    if p.0 == PortNo::ROOT.0 {
-        return p;
-    }
-    parent_at(s, p)
-}
-
 // Number 7.
 pub fn chain_too_long(s: &[u8], p: PortNo) -> bool
     ensures { λ r. ⌜ r ≡ chainTooLong (treeOf (now (s .entry))) (p .0) ⌝ }
@@ -77,7 +67,10 @@ pub fn chain_too_long(s: &[u8], p: PortNo) -> bool
     let mut q = p;
     let mut k: u8 = 0;
     while k < 16 {
-        q = step_up(s, q);
+        if q.0 == PortNo::ROOT.0 {
+            return false;
+        }
+        q = parent_at(s, q);
         k += 1;
     }
     q.0 != PortNo::ROOT.0

@@ -1,4 +1,4 @@
-use Rattle.picture.proofs.Laws.{place-wrong, place-kept, misplaced-here, misplaced-end, misplaced-nowhere}
+use Rattle.picture.proofs.Laws.{place-wrong, place-kept, all-bytes-same, misplaced-here, misplaced-end, misplaced-nowhere}
 use native.Mathlib.Numerals.{add-one}
 use native.Mathlib.Nat.{le-antisymm}
 use mathlib.Core.Path.{_∙_, ap₂}
@@ -22,21 +22,18 @@ loop-holds : tie.Need-loop-holds Inv-loop μ-loop
 unfolding runningOffset
 loop-holds c = (omega arith, c .record-at .ensures .0 ∙ ap₂ recordAt (c .before .edition-of .ensures) (c .before .before .before .pre), omega arith, none-empty (omega arith))
 
-cast-if1 : tie.Need-cast-if1 Inv-loop μ-loop
-cast-if1 c = omega (arith, c .struct-known .given)
-
 returns : tie.Need-returns Inv-loop μ-loop
 returns c =
-    misplaced-here _ _ (rw (← c .before .before .before .before .before .before .before .before .pre) (c .before .before .before .loop-test .taken))
-    (place-wrong _ _ _ _ (c .before .before .port-at .ensures) (c .before .before .before .before .loop .inv .1) (c .if1 .taken)) (c .before .before .before .before .loop .inv .3)
+    misplaced-here _ _ (rw (← c .before .before .before .before .before .before .before .pre) (c .before .before .loop-test .taken))
+    (place-wrong _ _ _ _ (c .before .vectors-start .ensures) (c .before .before .before .loop .inv .1) (c .if1 .taken)) (c .before .before .before .loop .inv .3)
 
 loop-again : tie.Need-loop-again Inv-loop μ-loop
 unfolding runningOffset
 loop-again c = (
   omega arith,
-  rw (add-one, c .all-bytes .ensures .0, c .before .before .before .before .before .before .loop .inv .1, ← c .before .before .before .before .port-at .ensures),
+  rw (add-one, c .all-bytes .ensures .0, all-bytes-same _ _ (c .before .sizes-of .ensures), c .before .before .before .before .before .loop .inv .1),
   omega arith,
-  none-more (c .before .before .before .before .before .before .loop .inv .3) (place-kept _ _ _ _ (c .before .before .before .before .port-at .ensures) (c .before .before .before .before .before .before .loop .inv .1) (c .before .before .if1 .left)),
+  none-more (c .before .before .before .before .before .loop .inv .3) (place-kept _ _ _ _ (c .before .before .before .vectors-start .ensures) (c .before .before .before .before .before .loop .inv .1) (c .before .before .if1 .left)),
 )
 
 returns-2 : tie.Need-returns-2 Inv-loop μ-loop
@@ -59,9 +56,10 @@ misplaced-spec =
     (λ c κs. omega arith)
     loop-holds
     (λ c κs. tt)
-    cast-if1
+    (λ c. omega arith)
     (λ c. omega arith)
     returns
+    (λ c κs. tt)
     (λ c κs. tt)
     (λ c. omega arith)
     (λ c. omega arith)
