@@ -199,16 +199,33 @@ impl Lent {
 
     /// Goes on to the next record: what it lends takes the place of what was lent; a call is answered.
     pub fn take(&mut self, record: &Record) -> Option<String> {
+        self.lend(record);
+        match record {
+            call if call.is_of_trial() => Some(self.answer_of_trial(call)),
+            call if call.is_call() => Some(self.answer(call)),
+            _ => None,
+        }
+    }
+
+    /// What the record lends takes the place of what was lent; a call lends nothing.
+    pub fn lend(&mut self, record: &Record) {
         match record {
             Record::Picture(bytes) => *self = Lent::of(bytes.clone(), std::mem::take(&mut self.patch)),
             Record::Patch(bytes) => {
                 self.patch = bytes.clone();
                 self.trial = OnceCell::new();
             }
-            call if call.is_of_trial() => return Some(self.answer_of_trial(call)),
-            call => return Some(self.answer(call)),
+            _ => {}
         }
-        None
+    }
+
+    /// The judge whom a walk by address asks, that of the picture or of the trial, with its start and address.
+    pub fn address_walk(&self, call: &Record) -> Option<(&Judge, u32, u64)> {
+        match *call {
+            Record::Walk { kind: 1, start, target } => Some((&self.judge, start, target)),
+            Record::TrialWalk { kind: 1, start, target } => Some((self.trial(), start, target)),
+            _ => None,
+        }
     }
 
     /// The judge of picture and patch.

@@ -1,10 +1,12 @@
 //! Hand-written cases with the answers that the papers give: the one-port picture and C1 to C12 of
 //! the paper, the numbered decisions on open points, and the cases that a first build gets wrong. Those
-//! of decoders by name, of trials, of the video range and of number 18 are in files of their own.
+//! of decoders by name, of trials, of the video range, of number 18 and of edition 2 are in files of their own.
 
 use crate::batch::Record;
 use crate::claim_cases::claim_cases;
 use crate::draft::{Draft, DraftPort, VectorShape, Which, DOWNSTREAM, NO_PARENT, ROOT, UPSTREAM};
+use crate::edition_cases::edition_cases;
+use crate::redirect_cases::redirect_cases;
 use crate::stopped_cases::stopped_cases;
 use crate::trial_cases::{cases_before_a_patch, trial_cases};
 use crate::vga_cases::vga_cases;
@@ -168,6 +170,8 @@ pub fn all_cases() -> Vec<Case> {
         trial_cases(),
         vga_cases(),
         stopped_cases(),
+        edition_cases(),
+        redirect_cases(),
     ]
     .into_iter()
     .flatten()
@@ -326,8 +330,8 @@ fn answer_cases() -> Vec<Case> {
     let mut one_byte_more = Draft::of(vec![root(0)]).bytes();
     one_byte_more.push(0);
     one_byte_more[4] += 1;
-    let mut edition_2 = one_port_picture();
-    edition_2[0] = 2;
+    let mut edition_3 = one_port_picture();
+    edition_3[0] = 3;
     let silent_roots = |count: u16| (0..count).map(root).collect::<Vec<_>>();
     let mut claims_own = silent_roots(4);
     claims_own.push(root(0x0308).buses(3, 3));
@@ -342,7 +346,7 @@ fn answer_cases() -> Vec<Case> {
         ),
         raw_case(
             "decision 1: no port named",
-            edition_2.clone(),
+            edition_3.clone(),
             vec![reports("refused 2"), checks(2, 255, 255, None)],
         ),
         case(
@@ -355,7 +359,7 @@ fn answer_cases() -> Vec<Case> {
         ),
         raw_case(
             "decision 3: reading comes before 16",
-            edition_2,
+            edition_3,
             vec![
                 walk_refused(3, 254, 0x1_0000, 2, 255),
                 claim_refused(99, 0, 0, 2),

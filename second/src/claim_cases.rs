@@ -277,8 +277,8 @@ fn unreadable_cases() -> Vec<Case> {
         ];
         raw_case(name, picture, calls)
     };
-    let mut edition_2 = one_port_picture();
-    edition_2[0] = 2;
+    let mut edition_3 = one_port_picture();
+    edition_3[0] = 3;
     let mut one_byte_more = Draft::of(vec![root(0)]).bytes();
     one_byte_more.push(0);
     one_byte_more[4] += 1;
@@ -289,7 +289,7 @@ fn unreadable_cases() -> Vec<Case> {
     wrong_start[16 + 42] &= 0x7F;
     vec![
         refused("item 3, reading first: no bytes", vec![], 1, "refused 1"),
-        refused("item 3, reading first: edition 2", edition_2, 2, "refused 2"),
+        refused("item 3, reading first: edition 3", edition_3, 2, "refused 2"),
         refused("item 3, reading first: a later child", later_child, 6, "refused 6 ports 3"),
         refused("item 3, reading first: a start", start_9, 9, "refused 9 ports 0"),
         refused("item 3, reading first: vectors elsewhere", wrong_start, 10, "refused 10 ports 0"),

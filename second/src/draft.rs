@@ -1,5 +1,7 @@
 //! A picture in the making: registers that can be set one by one, and written out as bytes.
 
+use crate::picture::Edition;
+
 pub const ROOT: u8 = 0;
 pub const UPSTREAM: u8 = 1;
 pub const DOWNSTREAM: u8 = 2;
@@ -8,6 +10,7 @@ pub const NO_PARENT: u8 = 255;
 const MEMORY_SPACE_ENABLE: u16 = 1 << 1;
 const ARI_FORWARDING_ENABLE: u16 = 1 << 5;
 const VGA_ENABLE: u16 = 1 << 3;
+pub const REQUEST_REDIRECT: u16 = 1 << 2;
 
 /// Which of the three vectors.
 #[derive(Clone, Copy, Debug, PartialEq, Eq)]
@@ -51,6 +54,9 @@ pub struct DraftPort {
     pub low_control: u32,
     pub high_control_1: u32,
     pub high_control_2: u32,
+    /// ACS Control and the two bytes after it, which are written in edition 2 alone.
+    pub acs_control: u16,
+    pub after_acs_control: u16,
     pub rid_vector: Vec<u8>,
     pub low_vector: Vec<u8>,
     pub high_vector: Vec<u8>,
@@ -59,6 +65,7 @@ pub struct DraftPort {
 /// A whole picture in the making.
 #[derive(Clone, Debug, Default)]
 pub struct Draft {
+    pub edition: Edition,
     pub ports: Vec<DraftPort>,
 }
 
@@ -117,6 +124,12 @@ impl DraftPort {
     pub fn set_vga(&mut self, enabled: bool) {
         self.bridge_control &= !VGA_ENABLE;
         self.bridge_control |= if enabled { VGA_ENABLE } else { 0 };
+    }
+
+    /// Sets P2P Request Redirect.
+    pub fn redirecting(mut self) -> DraftPort {
+        self.acs_control |= REQUEST_REDIRECT;
+        self
     }
 
     /// Sets or clears Memory Space Enable.
@@ -270,8 +283,8 @@ impl DraftPort {
         ALL_VECTORS.iter().map(|&which| self.bytes(which).len()).sum()
     }
 
-    /// The 56 bytes of the record.
-    fn write(&self, out: &mut Vec<u8>, vectors_start: u32) {
+    /// The bytes of the record.
+    fn write(&self, out: &mut Vec<u8>, edition: Edition, vectors_start: u32) {
         out.extend([self.kind, self.parent]);
         out.extend(self.own_id.to_le_bytes());
         out.extend(self.command.to_le_bytes());
@@ -291,28 +304,37 @@ impl DraftPort {
         out.extend(self.high_control_1.to_le_bytes());
         out.extend(self.high_control_2.to_le_bytes());
         out.extend(vectors_start.to_le_bytes());
+        if edition == Edition::Two {
+            out.extend(self.acs_control.to_le_bytes());
+            out.extend(self.after_acs_control.to_le_bytes());
+        }
     }
 }
 
 impl Draft {
-    /// A picture of these ports.
+    /// A picture of these ports, of edition 1.
     pub fn of(ports: Vec<DraftPort>) -> Draft {
-        Draft { ports }
+        Draft::in_edition(Edition::One, ports)
+    }
+
+    /// A picture of these ports, of this edition.
+    pub fn in_edition(edition: Edition, ports: Vec<DraftPort>) -> Draft {
+        Draft { edition, ports }
     }
 
     /// The picture as bytes, with offsets, starts and total as they should be.
     pub fn bytes(&self) -> Vec<u8> {
-        let vectors = 16 + 56 * self.ports.len();
+        let vectors = self.edition.record_start(self.ports.len());
         let total = vectors + self.ports.iter().map(DraftPort::vector_length).sum::<usize>();
         let mut out = Vec::with_capacity(total);
-        out.extend(1u16.to_le_bytes());
+        out.extend(self.edition.field().to_le_bytes());
         out.extend((self.ports.len() as u16).to_le_bytes());
         out.extend((total as u32).to_le_bytes());
         out.extend(16u32.to_le_bytes());
         out.extend((vectors as u32).to_le_bytes());
         let mut offset = vectors;
         for port in &self.ports {
-            port.write(&mut out, offset as u32);
+            port.write(&mut out, self.edition, offset as u32);
             offset += port.vector_length();
         }
         for port in &self.ports {

@@ -9,8 +9,8 @@ use crate::words::{granularity_text, id_text, kind_text, start_text, vector_name
 /// The numbers that the check gives with their texts, as tests/number-texts has them.
 pub const NUMBER_TEXTS: [(u8, &str); 17] = [
     (0, "nothing was found wrong"),
-    (1, "the picture is shorter than 72 bytes or longer than 65,536"),
-    (2, "the picture's edition is not 1"),
+    (1, "the picture is shorter than 72 bytes (76 in edition 2) or longer than 65,536"),
+    (2, "the picture's edition is neither 1 nor 2"),
     (3, "the picture has no port, or more than 64"),
     (4, "the total length in the header is not the picture's length"),
     (5, "the records or the vectors do not begin where they must, or the records go past the picture's end"),
@@ -18,8 +18,8 @@ pub const NUMBER_TEXTS: [(u8, &str); 17] = [
     (7, "a port has more than 15 ports above it in its chain"),
     (
         8,
-        "a port has a vector enabled that it does not support, a size or granularity that may not be, or \
-         wrong low bits in a memory register",
+        "a port has a vector enabled that it does not support, a size or granularity that may not be, \
+         wrong low bits in a memory register, or bytes after ACS Control that are not zero",
     ),
     (9, "an enabled vector starts where it may not"),
     (10, "a port's vectors do not begin where they must, or the last ones do not end where the picture ends"),
@@ -180,6 +180,9 @@ fn causes_of_8(record: &Record) -> String {
         text += &format!("; it has Memory Base {base:04x} and Limit {limit:04x}, ");
         text +=
             &format!("Prefetchable Memory Base {prefetchable_base:04x} and Limit {prefetchable_limit:04x}");
+    }
+    if record.after_acs_control() != 0 {
+        text += &format!("; the two bytes after its ACS Control hold {:04x}", record.after_acs_control());
     }
     text
 }

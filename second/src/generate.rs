@@ -6,19 +6,24 @@ use crate::cases::all_cases;
 use crate::claim_calls::{claim_calls, claim_calls_on_nothing, holders_call};
 use crate::claims::{bus, unit};
 use crate::draft::{Draft, DraftPort, Which, NO_PARENT, ROOT, UPSTREAM};
+use crate::edges::reading_edges;
+use crate::editions::in_either_edition;
 use crate::judge::Judge;
 use crate::meetings::meeting;
+use crate::patches::Readable;
 use crate::picture::{read, Picture, Port, Refusal, Target, Vector, FOUR_GIB};
 use crate::random::Random;
+use crate::redirects::redirect_calls;
 use crate::samples::{sample, SAMPLE_NAMES};
 use crate::sound::{fill, Taste};
 use crate::spoil::{
-    chain_at_the_edge, misplace, reading_edges, scatter_own_ids, scramble_settings, scramble_starts, spoil,
+    chain_at_the_edge, edit_tail, misplace, scatter_own_ids, scramble_settings, scramble_starts, spoil,
 };
 use crate::stopped::stopped;
 use crate::stopped_calls::write_stopped;
 use crate::topology::{grow, port_count, Form, ALL_FORMS};
-use crate::trials::write_trials;
+use crate::towers::towers;
+use crate::trials::{write_redirect_trials, write_trials};
 use crate::video::{crowd_the_first_mib, has_video, video_edge};
 use crate::widen::{set_entry, widen};
 use crate::wild::{add_noise, make_memory_wild, wild};
@@ -42,14 +47,20 @@ const MEETING_EVERY: u64 = 8;
 /// After one of so many pictures of a batch comes one more, for number 18.
 const STOPPED_EVERY: u64 = 5;
 
+/// After one of so many comes one more for redirect, the one half-way.
+const TOWERS_EVERY: u64 = 5;
+
 /// Of so many pictures for texts one is for number 18, the one half-way.
 const STOPPED_OF_TEXTS: u64 = 16;
 
-/// How often a picture that reads is asked for a walk of each kind; fewer where two ports meet, in a small one.
+/// How often a picture that reads is asked for a walk of each kind; fewer where two ports meet, in a small one,
+/// and where redirect has its own walks.
 const ROUNDS: usize = 12;
 const ROUNDS_AT_A_MEETING: usize = 6;
+const ROUNDS_IN_TOWERS: usize = 3;
 
-/// A batch of so many pictures, and after every fifth one for number 18; the same seed gives the same batch.
+/// A batch of so many pictures, and for every five of them one more for number 18 and one for redirect; the same
+/// seed gives the same batch.
 pub fn generate(seed: u64, count: u64) -> Vec<u8> {
     let mut batch = Vec::new();
     for index in 0..count {
@@ -66,8 +77,23 @@ pub fn generate(seed: u64, count: u64) -> Vec<u8> {
         if index % STOPPED_EVERY == STOPPED_EVERY - 1 {
             write_stopped(&mut random_of_stopped(seed, index), index / STOPPED_EVERY, &mut batch);
         }
+        if index % TOWERS_EVERY == TOWERS_EVERY / 2 {
+            write_towers(&mut random_of_towers(seed, index), &mut batch);
+        }
     }
     batch
+}
+
+/// Writes a picture for redirect, its calls and two trials.
+fn write_towers(random: &mut Random, batch: &mut Vec<u8>) {
+    let bytes = towers(random).bytes();
+    let judge = Judge::new(&bytes);
+    write_with_calls(random, &bytes, &judge, ROUNDS_IN_TOWERS, batch);
+    write_redirect_trials(
+        random,
+        Readable { bytes: &bytes, picture: judge.reading().expect("towers read") },
+        batch,
+    );
 }
 
 /// The random numbers of one picture of a seed.
@@ -83,6 +109,11 @@ fn random_of_trials(seed: u64, index: u64) -> Random {
 /// Those of the picture for number 18 that comes after it, apart from the others too.
 fn random_of_stopped(seed: u64, index: u64) -> Random {
     Random::new(random_of(seed, index).bits().rotate_left(32))
+}
+
+/// Those of the picture for redirect that comes after it, apart from the others too.
+fn random_of_towers(seed: u64, index: u64) -> Random {
+    Random::new(random_of(seed, index).bits().swap_bytes())
 }
 
 /// So many pictures: every other one from the families of a batch, of these one in eight for number 18, and
@@ -121,6 +152,7 @@ pub fn refused_picture(random: &mut Random, number: u8) -> Vec<u8> {
             7 => scatter_own_ids(random, &mut picture),
             8 if random.percent(75) => scramble_settings(random, &mut picture),
             9 if random.percent(75) => scramble_starts(random, &mut picture),
+            10 if random.percent(40) => edit_tail(random, &mut picture),
             _ => spoil(random, &mut picture),
         }
         if read(&picture).is_err_and(|refusal| refusal.number == number) {
@@ -140,7 +172,7 @@ fn twice_owned_picture(random: &mut Random) -> Vec<u8> {
     if random.percent(30) {
         second = second.buses(bus(own_id), bus(own_id));
     }
-    Draft::of(vec![first, second]).bytes()
+    in_either_edition(random, vec![first, second]).bytes()
 }
 
 /// Number 6: an upstream port below another, which has no child of a lower number.
@@ -148,7 +180,7 @@ fn first_child_picture(random: &mut Random) -> Vec<u8> {
     let root = DraftPort::silent(ROOT, NO_PARENT, random.bits() as u16);
     let upstream = DraftPort::silent(UPSTREAM, 0, random.bits() as u16);
     let below = DraftPort::silent(UPSTREAM, 1, random.bits() as u16);
-    Draft::of(vec![root, upstream, below]).bytes()
+    in_either_edition(random, vec![root, upstream, below]).bytes()
 }
 
 /// Mostly number 12 or 14: a small picture that is sound but around the video range.
@@ -166,7 +198,7 @@ fn unreached_picture(random: &mut Random) -> Vec<u8> {
     let own_id = (bus as u16) << 8 | random.between(8, 255) as u16;
     let root = DraftPort::silent(ROOT, NO_PARENT, random.below(256) as u16);
     let root = root.buses(secondary, secondary + random.between(1, 50) as u8);
-    Draft::of(vec![root, DraftPort::silent(UPSTREAM, 0, own_id)]).bytes()
+    in_either_edition(random, vec![root, DraftPort::silent(UPSTREAM, 0, own_id)]).bytes()
 }
 
 /// The hand-written cases and all edges of reading, as a batch; at every eighth edge holders are asked for.
@@ -265,6 +297,9 @@ fn write_with_calls(random: &mut Random, picture: &[u8], judge: &Judge, rounds: 
     };
     if let (Ok(picture), Err(Refusal { target: Some(least), .. })) = (judge.reading(), judge.check()) {
         calls.extend(calls_on_least_target(random, picture, least));
+    }
+    if let Ok(picture) = judge.reading() {
+        calls.extend(redirect_calls(random, picture));
     }
     calls.iter().for_each(|call| call.write(batch));
 }

@@ -7,7 +7,7 @@ use crate::check::check;
 use crate::claims::{Conversion, Decoders};
 use crate::patch::put_in;
 use crate::picture::{read, Named, Picture, Refusal, Target};
-use crate::walk::{walk_configuration, walk_packet, End, Walk};
+use crate::walk::{is_redirected, walk_configuration, walk_packet, End, Walk};
 
 /// The words for why a port holds a target: for its own ID, and for each decoder.
 const WORDS: [&str; 8] = [" own", " bus", " rid", " mem", " pref", " low", " high", " vga"];
@@ -52,6 +52,13 @@ impl Judge {
             2 => Ok(walk_configuration(picture, start, id_of(target)?)),
             _ => Ok(walk_packet(picture, start, target_of(kind, target)?)),
         }
+    }
+
+    /// Does the picture read, and is an address packet with this start redirected?
+    pub fn is_redirected(&self, start: u32, address: u64) -> bool {
+        let Ok(picture) = self.reading() else { return false };
+        let redirected = |port| is_redirected(picture, port, Target::Address(address));
+        start_place(picture, start).ok().flatten().is_some_and(redirected)
     }
 
     /// Reads, and the decoders of the port that claim the target; numbers 1 to 10, then 16.

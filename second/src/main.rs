@@ -18,8 +18,9 @@ const USAGE: &str = "usage:
   second batch                               the hand-written batch on standard output
   second answers                             answers to the batch on standard input
   second compare EXPECTED ACTUAL BATCH       first differences; status 1 if there are any
-  second tally ANSWERS BATCH                 how often each number, end and set of decoders was given
-  second picture SEED KIND                   a full sound picture on standard output; KIND is
+  second tally ANSWERS BATCH                 how often each number, end and set of decoders was given, and
+                                             pictures by edition
+  second picture SEED KIND                   a full sound picture of edition 1 on standard output; KIND is
                                              flat, nested, chain, high, low, rid or wide
   second pictures SEED COUNT FOLDER          random pictures, FOLDER/1.picture and so on
   second patches SEED COUNT FOLDER           random pictures with a patch each, FOLDER/1.picture, FOLDER/1.patch

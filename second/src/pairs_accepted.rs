@@ -2,7 +2,8 @@
 //! does not read, whatever the patch.
 
 use crate::claims::bus;
-use crate::draft::{Draft, DraftPort, VectorShape, Which, NO_PARENT, ROOT, UPSTREAM};
+use crate::draft::{DraftPort, VectorShape, Which, NO_PARENT, ROOT, UPSTREAM};
+use crate::editions::in_either_edition;
 use crate::generate::refused_picture;
 use crate::judge::Judge;
 use crate::pairs::{small_picture, small_sound_picture, Pair, Turn};
@@ -92,7 +93,7 @@ fn shared_high(random: &mut Random) -> Pair {
     let first_mib = 4_096 + 256 * entry as u64;
     let other = DraftPort::silent(ROOT, NO_PARENT, 0x8000 + own_id).prefetchable(first_mib, first_mib + 255);
     let ports = vec![with_vector(port, Which::High, 16), other];
-    Pair { picture: Draft::of(ports).bytes(), patch: setting_entry(entry) }
+    Pair { picture: in_either_edition(random, ports).bytes(), patch: setting_entry(entry) }
 }
 
 /// Number 12: by its new vector a port claims the first MiB, where another has the video range.
@@ -101,7 +102,7 @@ fn shared_video(random: &mut Random) -> Pair {
     let port = DraftPort::silent(ROOT, NO_PARENT, own_id).with_memory_space(true);
     let card = DraftPort::silent(ROOT, NO_PARENT, 0x8000 + own_id).video();
     let ports = vec![with_vector(port, Which::Low, 0), card];
-    Pair { picture: Draft::of(ports).bytes(), patch: setting_entry(0) }
+    Pair { picture: in_either_edition(random, ports).bytes(), patch: setting_entry(0) }
 }
 
 /// Number 13: an ID that the parent does not claim.
@@ -141,7 +142,7 @@ fn claimed_own_id(random: &mut Random) -> Pair {
     let (first_unit, entry) = (random.below(7_000) as u16, random.below(256) as u16);
     let own_id = 8 * (first_unit + entry) + random.below(8) as u16;
     let port = with_rid_vector(DraftPort::silent(ROOT, NO_PARENT, own_id), first_unit);
-    Pair { picture: Draft::of(vec![port]).bytes(), patch: setting_entry(entry) }
+    Pair { picture: in_either_edition(random, vec![port]).bytes(), patch: setting_entry(entry) }
 }
 
 /// Number 11: a port claims its own ID by its bus pair, and by its new vector too.
@@ -150,7 +151,7 @@ fn twice_claimed_own_id(random: &mut Random) -> Pair {
     let own_id = 8 * (first_unit + entry) + random.below(8) as u16;
     let port = DraftPort::silent(ROOT, NO_PARENT, own_id).buses(bus(own_id), bus(own_id));
     let port = with_rid_vector(port, first_unit);
-    Pair { picture: Draft::of(vec![port]).bytes(), patch: setting_entry(entry) }
+    Pair { picture: in_either_edition(random, vec![port]).bytes(), patch: setting_entry(entry) }
 }
 
 /// Number 15: by its new vector the parent claims the own ID of the port below it, as Type 1; without it
@@ -161,7 +162,7 @@ fn own_id_passed_on(random: &mut Random) -> Pair {
     let root = DraftPort::silent(ROOT, NO_PARENT, random.below(256) as u16);
     let root = with_rid_vector(root, first_unit).secondary_range(first_unit - 1, 0);
     let ports = vec![root, DraftPort::silent(UPSTREAM, 0, own_id)];
-    Pair { picture: Draft::of(ports).bytes(), patch: setting_entry(entry) }
+    Pair { picture: in_either_edition(random, ports).bytes(), patch: setting_entry(entry) }
 }
 
 /// Number 15: the own ID is on the parent's Secondary bus with another device number than 0; the new
@@ -172,7 +173,7 @@ fn own_id_unsupported(random: &mut Random) -> Pair {
     let root = DraftPort::silent(ROOT, NO_PARENT, random.below(256) as u16).buses(bus, bus);
     let root = with_rid_vector(root, 7_000).secondary_range(7_000, 0);
     let ports = vec![root, DraftPort::silent(UPSTREAM, 0, own_id)];
-    Pair { picture: Draft::of(ports).bytes(), patch: setting_entry(random.below(256) as u16) }
+    Pair { picture: in_either_edition(random, ports).bytes(), patch: setting_entry(random.below(256) as u16) }
 }
 
 /// Numbers 1 to 10: a patch that changes nothing, one that is refused, or one of any port.
@@ -196,7 +197,7 @@ fn taken_in_range(random: &mut Random) -> Pair {
     let first_unit = 32 * (bus + 1);
     let root = with_rid_vector(root_above(random, bus), 0).secondary_range(first_unit + entry, 31);
     let child = with_rid_vector(DraftPort::silent(UPSTREAM, 0, bus << 8), first_unit);
-    Pair { picture: Draft::of(vec![root, child]).bytes(), patch: setting_entry_of(1, entry) }
+    Pair { picture: in_either_edition(random, vec![root, child]).bytes(), patch: setting_entry_of(1, entry) }
 }
 
 /// Number 18: a port claims the bus of its parent's Secondary range by its bus pair, and the first unit of it
@@ -208,17 +209,15 @@ fn taken_on_bus(random: &mut Random) -> Pair {
     let root = root.secondary_range(32 * (bus + more) + random.below(32) as u16, 0);
     let child = DraftPort::silent(UPSTREAM, 0, bus << 8).buses((bus + more) as u8, (bus + more) as u8);
     let ports = vec![root, with_rid_vector(child, first_unit)];
-    Pair { picture: Draft::of(ports).bytes(), patch: setting_entry_of(1, 32 * (more - 1)) }
+    Pair { picture: in_either_edition(random, ports).bytes(), patch: setting_entry_of(1, 32 * (more - 1)) }
 }
 
 /// Number 18: by its new vector a port claims another device than 0 of its parent's bus Secondary.
 fn refused_on_bus(random: &mut Random) -> Pair {
     let (bus, entry) = (random.between(1, 200) as u16, random.between(1, 31) as u16);
     let child = with_rid_vector(DraftPort::silent(UPSTREAM, 0, bus << 8), 32 * bus);
-    Pair {
-        picture: Draft::of(vec![root_above(random, bus), child]).bytes(),
-        patch: setting_entry_of(1, entry),
-    }
+    let ports = vec![root_above(random, bus), child];
+    Pair { picture: in_either_edition(random, ports).bytes(), patch: setting_entry_of(1, entry) }
 }
 
 /// Number 18: a port claims the one unit of its parent's Secondary range, which the parent claims by its new
@@ -229,5 +228,5 @@ fn taken_once_claimed(random: &mut Random) -> Pair {
     let root = with_rid_vector(root_above(random, bus), first_unit).secondary_range(first_unit + entry, 0);
     let mut child = with_rid_vector(DraftPort::silent(UPSTREAM, 0, bus << 8), first_unit);
     child.flip_entry(Which::Rid, entry as u64);
-    Pair { picture: Draft::of(vec![root, child]).bytes(), patch: setting_entry(entry) }
+    Pair { picture: in_either_edition(random, vec![root, child]).bytes(), patch: setting_entry(entry) }
 }

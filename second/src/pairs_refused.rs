@@ -1,6 +1,7 @@
 //! Pairs whose patch is refused, one way for each form of the sentences of numbers 30 to 32.
 
-use crate::draft::{Draft, DraftPort, NO_PARENT, ROOT};
+use crate::draft::{DraftPort, NO_PARENT, ROOT};
+use crate::editions::in_either_edition;
 use crate::judge::Judge;
 use crate::pairs::{small_picture, Pair, Turn};
 use crate::patch_damage::damaged_patch;
@@ -156,7 +157,8 @@ fn last_port_beyond(random: &mut Random) -> Pair {
 
 /// Number 31: the picture has one port, and another stands in the patch.
 fn beyond_one_port(random: &mut Random) -> Pair {
-    let picture = Draft::of(vec![DraftPort::silent(ROOT, NO_PARENT, random.bits() as u16)]).bytes();
+    let port = DraftPort::silent(ROOT, NO_PARENT, random.bits() as u16);
+    let picture = in_either_edition(random, vec![port]).bytes();
     let new = [0, random.pick(&[1, 1, 255])].map(|port| NewVectors { port, bytes: Vec::new() });
     Pair { picture, patch: PatchDraft::of(&new).bytes() }
 }

@@ -42,6 +42,47 @@ impl Refusal {
     }
 }
 
+/// The editions that a picture can have. They differ in the size of their records, and in what the longer ones
+/// have at the end.
+#[derive(Clone, Copy, Debug, Default, PartialEq, Eq, PartialOrd, Ord)]
+pub enum Edition {
+    #[default]
+    One,
+    Two,
+}
+
+impl Edition {
+    /// The edition that a header's field stands for, if it is one.
+    pub fn of(field: u16) -> Option<Edition> {
+        match field {
+            1 => Some(Edition::One),
+            2 => Some(Edition::Two),
+            _ => None,
+        }
+    }
+
+    /// The header's field for it.
+    pub fn field(self) -> u16 {
+        match self {
+            Edition::One => 1,
+            Edition::Two => 2,
+        }
+    }
+
+    /// How many bytes the record of a port has.
+    pub fn record_size(self) -> usize {
+        match self {
+            Edition::One => 56,
+            Edition::Two => 60,
+        }
+    }
+
+    /// Where the record of a port begins; for the port count, where all records end and the vectors begin.
+    pub fn record_start(self, port: usize) -> usize {
+        16 + self.record_size() * port
+    }
+}
+
 #[derive(Clone, Copy, Debug, PartialEq, Eq)]
 pub enum Kind {
     Root,
@@ -111,6 +152,8 @@ pub struct Port {
     pub ari: bool,
     /// VGA Enable, bit 3 of Bridge Control; no other bit of that register counts.
     pub vga_enable: bool,
+    /// P2P Request Redirect, bit 2 of ACS Control; it counts at a device port where a packet starts.
+    pub request_redirect: bool,
     pub num_sec_dev: u16,
     /// Secondary Start, a unit.
     pub secondary_start: u16,
@@ -136,14 +179,28 @@ impl Picture {
         self.ports[port].kind != Kind::Upstream && self.ports_at(Some(port)).is_empty()
     }
 
+    /// The ports from this one up to its root port, in this order.
+    pub fn way_up(&self, port: usize) -> Vec<usize> {
+        let above = self.ports[port].parent.map_or(Vec::new(), |parent| self.way_up(parent));
+        [vec![port], above].concat()
+    }
+
     /// How many ports stand on the chain from the root port down to this one.
     pub fn depth(&self, port: usize) -> usize {
-        1 + self.ports[port].parent.map_or(0, |parent| self.depth(parent))
+        self.way_up(port).len()
     }
 }
 
-/// The 56 bytes of one port, with its fields by name.
+/// What a good header says: the edition and the port count.
+#[derive(Clone, Copy)]
+struct Header {
+    edition: Edition,
+    count: usize,
+}
+
+/// The bytes of one port, as many as the edition has, with its fields by name.
 pub struct Record<'a> {
+    edition: Edition,
     bytes: &'a [u8],
 }
 
@@ -285,6 +342,23 @@ impl Record<'_> {
         self.kind() != Some(Kind::Upstream) && half(self.bytes, 24) >> 5 & 1 == 1
     }
 
+    /// A field of 2 bytes that edition 2 has and edition 1 does not: it counts as 0 there.
+    fn half_of_edition_2(&self, at: usize) -> u16 {
+        match self.edition {
+            Edition::One => 0,
+            Edition::Two => half(self.bytes, at),
+        }
+    }
+
+    fn acs_control(&self) -> u16 {
+        self.half_of_edition_2(56)
+    }
+
+    /// The two bytes after ACS Control, which number 8 wants to be zero.
+    pub fn after_acs_control(&self) -> u16 {
+        self.half_of_edition_2(58)
+    }
+
     /// Settings of the RID vector, in IDs.
     fn rid(&self) -> Setting {
         let capabilities = self.capabilities();
@@ -380,7 +454,7 @@ impl Record<'_> {
             let supported = setting.supported || !setting.enabled;
             supported && setting.codes_are_good()
         });
-        vectors && self.range_bits_are_good()
+        vectors && self.range_bits_are_good() && self.after_acs_control() == 0
     }
 
     /// Everything that number 9 looks at; the settings are good already.
@@ -402,20 +476,21 @@ fn register_address(register: u16) -> u64 {
 
 /// Reads a picture: the lowest number from 1 to 10 that applies, or its ports.
 pub fn read(picture: &[u8]) -> Result<Picture, Refusal> {
-    let count = read_header(picture)?;
-    let records = records(picture, count);
+    let header = read_header(picture)?;
+    let records = records(picture, header);
     judge_family(&records)?;
     judge_chains(&records)?;
     refuse_first(8, &records, |record| record.settings_are_good())?;
     refuse_first(9, &records, |record| record.starts_are_good())?;
-    judge_layout(&records, picture.len())?;
+    judge_layout(&records, header.edition, picture.len())?;
     let ports = records.iter().map(|record| read_port(record, picture)).collect();
     Ok(Picture { ports })
 }
 
-/// The records of that many ports; the picture has room for them.
-fn records(picture: &[u8], count: usize) -> Vec<Record<'_>> {
-    (0..count).map(|port| Record { bytes: &picture[16 + 56 * port..16 + 56 * (port + 1)] }).collect()
+/// The records that a header tells of; the picture has room for them.
+fn records(picture: &[u8], Header { edition, count }: Header) -> Vec<Record<'_>> {
+    let bytes_of = |port| &picture[edition.record_start(port)..edition.record_start(port + 1)];
+    (0..count).map(|port| Record { edition, bytes: bytes_of(port) }).collect()
 }
 
 /// The header's fields as they stand: edition, count and total. The picture has 72 bytes or more.
@@ -425,17 +500,27 @@ pub fn header_fields(picture: &[u8]) -> (u16, u16, u32) {
 
 /// The records of a picture whose header is good, whatever they hold; none if it is not.
 pub fn records_of(picture: &[u8]) -> Vec<Record<'_>> {
-    read_header(picture).map_or(Vec::new(), |count| records(picture, count))
+    read_header(picture).map_or(Vec::new(), |header| records(picture, header))
 }
 
-/// Numbers 1 to 5; gives the port count.
-fn read_header(picture: &[u8]) -> Result<usize, Refusal> {
-    if picture.len() < 72 || picture.len() > 65_536 {
+/// The edition that the field at 0 stands for, if it is one; bytes past the end count as 0.
+pub fn edition_of(picture: &[u8]) -> Option<Edition> {
+    let byte = |at: usize| picture.get(at).copied().unwrap_or(0);
+    Edition::of(u16::from_le_bytes([byte(0), byte(1)]))
+}
+
+/// The shortest length of a picture of this edition: a header and one record. That of edition 1 if it is none.
+pub fn shortest_length(edition: Option<Edition>) -> usize {
+    edition.unwrap_or_default().record_start(1)
+}
+
+/// Numbers 1 to 5.
+fn read_header(picture: &[u8]) -> Result<Header, Refusal> {
+    let edition = edition_of(picture);
+    if picture.len() < shortest_length(edition) || picture.len() > 65_536 {
         return Err(Refusal::bare(1));
     }
-    if half(picture, 0) != 1 {
-        return Err(Refusal::bare(2));
-    }
+    let Some(edition) = edition else { return Err(Refusal::bare(2)) };
     let count = half(picture, 2) as usize;
     if count == 0 || count > 64 {
         return Err(Refusal::bare(3));
@@ -443,12 +528,12 @@ fn read_header(picture: &[u8]) -> Result<usize, Refusal> {
     if word(picture, 4) as usize != picture.len() {
         return Err(Refusal::bare(4));
     }
-    let records_end = 16 + 56 * count;
+    let records_end = edition.record_start(count);
     let offsets = word(picture, 8) == 16 && word(picture, 12) as usize == records_end;
     if !offsets || records_end > picture.len() {
         return Err(Refusal::bare(5));
     }
-    Ok(count)
+    Ok(Header { edition, count })
 }
 
 /// Number 6: kind, parent and child rules, each port in the light of lower ports only.
@@ -503,8 +588,8 @@ fn refuse_first(number: u8, records: &[Record], good: fn(&Record) -> bool) -> Re
 }
 
 /// Number 10: every start is the running offset, and the last vector ends at the total (else 255).
-fn judge_layout(records: &[Record], total: usize) -> Result<(), Refusal> {
-    let mut offset = 16 + 56 * records.len();
+fn judge_layout(records: &[Record], edition: Edition, total: usize) -> Result<(), Refusal> {
+    let mut offset = edition.record_start(records.len());
     for (port, record) in records.iter().enumerate() {
         if record.vectors_start() as usize != offset {
             return Err(Refusal::at_port(10, port));
@@ -548,6 +633,7 @@ fn read_port(record: &Record, picture: &[u8]) -> Port {
         prefetchable_is_64: half(record.bytes, 12) & 0xF == 1,
         ari: record.ari(),
         vga_enable: half(record.bytes, 26) >> 3 & 1 == 1,
+        request_redirect: record.acs_control() >> 2 & 1 == 1,
         num_sec_dev: bits(record.capabilities(), 7, 3) as u16,
         secondary_start: bits(word(record.bytes, 36), 15, 3) as u16,
         rid,

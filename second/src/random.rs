@@ -19,6 +19,11 @@ impl Random {
         mixed ^ (mixed >> 31)
     }
 
+    /// A source of its own, which takes no number from this one.
+    pub fn apart(&self) -> Random {
+        Random::new(!self.state.rotate_left(32))
+    }
+
     /// A number below the limit, which is above 0.
     pub fn below(&mut self, limit: u64) -> u64 {
         self.bits() % limit

@@ -1,7 +1,8 @@
-//! Full sound pictures of 64 ports for benchmarks: every port has large vectors of one shape, and
+//! Full sound pictures of 64 ports for benchmarks, of edition 1: every port has large vectors of one shape, and
 //! every entry of a place's port goes to some port there.
 
 use crate::draft::{Draft, DraftPort, VectorShape, Which, DOWNSTREAM, NO_PARENT, ROOT, UPSTREAM};
+use crate::picture::Edition;
 use crate::random::Random;
 use crate::topology::{grow, Form};
 
@@ -78,7 +79,7 @@ fn lots(ports: &[DraftPort], port: usize) -> usize {
 
 /// Gives every port its vectors, as long as the picture has room, and hands out all entries.
 fn fill_to_the_brim(random: &mut Random, mut ports: Vec<DraftPort>, shapes: Shapes) -> Draft {
-    let mut bytes_left = 65_536 - 16 - 56 * ports.len();
+    let mut bytes_left = 65_536 - Edition::One.record_start(ports.len());
     for port in &mut ports {
         let needed: usize = shapes.iter().flatten().map(|shape| 32usize << shape.size_code).sum();
         if needed <= bytes_left {

@@ -2,6 +2,8 @@
 //! to the ports there, in parts that do not overlap.
 
 use crate::draft::{Draft, DraftPort, VectorShape, Which, UPSTREAM};
+use crate::editions::in_either_edition;
+use crate::picture::Edition;
 use crate::pool::Pool;
 use crate::random::Random;
 
@@ -9,7 +11,7 @@ const UNITS: u64 = 8_192;
 const UNITS_OF_A_BUS: u64 = 32;
 const LOW_END: u64 = 4_096;
 const MEMORY_END: u64 = 1 << 44;
-const MOST_VECTOR_BYTES: usize = 65_536 - 16;
+const MOST_BYTES: usize = 65_536;
 
 /// How a picture is to be filled: chances in a hundred for each mechanism, and how pools are cut.
 #[derive(Clone, Debug)]
@@ -125,7 +127,7 @@ fn fill_by_taste(random: &mut Random, mut ports: Vec<DraftPort>, taste: &Taste, 
 /// Fills silent ports, if the IDs suffice.
 fn try_to_fill(random: &mut Random, ports: Vec<DraftPort>, taste: Taste, holds_back: bool) -> Option<Filled> {
     let count = ports.len();
-    let bytes_left = MOST_VECTOR_BYTES - 56 * count;
+    let bytes_left = MOST_BYTES - Edition::Two.record_start(count);
     let ids = vec![Pool::default(); count];
     let memory = vec![Pool::default(); count];
     let video = vec![false; count];
@@ -135,7 +137,7 @@ fn try_to_fill(random: &mut Random, ports: Vec<DraftPort>, taste: Taste, holds_b
         filling.hand_out_at(Some(port))?;
     }
     let passes_on = (0..count).all(|port| filling.passes_on(port));
-    Some(Filled { draft: Draft::of(filling.ports), passes_on })
+    Some(Filled { draft: in_either_edition(filling.random, filling.ports), passes_on })
 }
 
 impl Filling<'_> {

@@ -3,7 +3,8 @@
 //! its own.
 
 use crate::cases::{shape, BUS, RID};
-use crate::draft::{Draft, DraftPort, VectorShape, Which, DOWNSTREAM, NO_PARENT, ROOT, UPSTREAM};
+use crate::draft::{DraftPort, VectorShape, Which, DOWNSTREAM, NO_PARENT, ROOT, UPSTREAM};
+use crate::editions::in_either_edition;
 use crate::random::Random;
 use crate::stopped::{Aim, Stopped, Turn, Way};
 use crate::widen::{set_entry, MIB_OF_A_HIGH_GRANULE};
@@ -58,7 +59,7 @@ pub fn draw(random: &mut Random, turn: Turn) -> Stopped {
     if !earlier_first {
         push_earlier(random, &mut ports, turn.aim);
     }
-    let mut draft = Draft::of(ports);
+    let mut draft = in_either_edition(random, ports);
     if random.percent(50) {
         add_noise(random, &mut draft);
     }

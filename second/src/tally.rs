@@ -1,8 +1,10 @@
-//! How often each number, end, crossing count, set of decoders and so on was given.
+//! How often each number, end, crossing count, set of decoders and so on was given, and how many pictures there
+//! are of each edition.
 
 use std::collections::BTreeMap;
 
-use crate::batch::{Record, Records};
+use crate::batch::{Lent, Record, Records};
+use crate::picture::{edition_of, Edition};
 
 /// The words for the bits of a claim, bit 0 first.
 const DECODERS: [&str; 7] = ["bus", "rid", "mem", "pref", "low", "high", "vga"];
@@ -14,12 +16,38 @@ const CONVERSIONS: [&str; 4] = ["not claimed", "Type 0", "Type 1", "Unsupported 
 pub fn tally(batch: &[u8], answers: &str) -> Result<BTreeMap<String, u64>, String> {
     let mut lines = answers.lines();
     let mut counts = BTreeMap::new();
+    let mut lent = Lent::of(Vec::new(), Vec::new());
     for record in Records::of(batch) {
-        let Some(heading) = heading(&record?) else { continue };
-        let line = lines.next().ok_or("there are fewer answers than calls")?;
-        *counts.entry(format!("{heading}: {}", gist(heading, line))).or_default() += 1;
+        let record = record?;
+        lent.lend(&record);
+        let counted = match (&record, heading(&record)) {
+            (Record::Picture(bytes), _) => format!("picture: {}", edition_words(bytes)),
+            (_, None) => continue,
+            (call, Some(heading)) => {
+                let line = lines.next().ok_or("there are fewer answers than calls")?;
+                format!("{heading}{}: {}", redirected_words(&lent, call), gist(heading, line))
+            }
+        };
+        *counts.entry(counted).or_default() += 1;
     }
     Ok(counts)
+}
+
+/// The edition of a picture.
+fn edition_words(picture: &[u8]) -> &'static str {
+    match edition_of(picture) {
+        Some(Edition::One) => "edition 1",
+        Some(Edition::Two) => "edition 2",
+        None => "neither edition",
+    }
+}
+
+/// What a walk that is redirected has behind its heading.
+fn redirected_words(lent: &Lent, call: &Record) -> &'static str {
+    match lent.address_walk(call) {
+        Some((judge, start, address)) if judge.is_redirected(start, address) => ", redirected",
+        _ => "",
+    }
 }
 
 /// What the answers to a call are counted under; nothing for a record that asks nothing.

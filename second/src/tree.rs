@@ -65,12 +65,16 @@ fn has_later_sibling(picture: &Picture, port: usize) -> bool {
 fn port_text(picture: &Picture, number: usize) -> String {
     let port = &picture.ports[number];
     let (id, buses, kind) = (id_text(port.own_id), buses_text(port), kind_text(port.kind));
+    let is_device_port = picture.is_device_port(number);
     let mut text = format!("{id}-{buses}  port {number}, {kind}");
-    if picture.is_device_port(number) {
+    if is_device_port {
         text += ", device port";
     }
     if port.ari {
         text += ", ARI";
+    }
+    if is_device_port && port.request_redirect {
+        text += ", redirect";
     }
     text + &windows_text(port) + &vectors_text(port)
 }

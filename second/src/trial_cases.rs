@@ -98,7 +98,7 @@ fn goes_nowhere(kind: u32, start: u32, target: u64, number: u8) -> Call {
 }
 
 /// A port's vector lies there.
-fn lies(port: u32, mechanism: u32, answer: &str) -> Call {
+pub fn lies(port: u32, mechanism: u32, answer: &str) -> Call {
     (Record::Part { port, mechanism }, answer.to_string())
 }
 
@@ -504,8 +504,8 @@ fn order_cases() -> Vec<Case> {
     let mut one_byte_more = four();
     one_byte_more.push(0);
     one_byte_more[4..8].copy_from_slice(&561u32.to_le_bytes());
-    let mut edition_2 = four();
-    edition_2[0] = 2;
+    let mut edition_3 = four();
+    edition_3[0] = 3;
     let at_the_end = || vec![prints("refused 10 ports 255"), finds(10, 255, 255, None), lies(9, 9, "10")];
     let mut colliding = all_refused(30);
     colliding.push((Record::Report, "refused 11 id 0128 ports 1 by rid 3 by rid".to_string()));
@@ -522,7 +522,7 @@ fn order_cases() -> Vec<Case> {
         refused(31, "item 2, order: 31 of two, 32 of the first", patch(2, 24, &[(3, 0), (3, 0)], vec![])),
         trial("item 2, order: 10 before 30", one_byte_more.clone(), vec![], at_the_end()),
         trial("item 2, order: 10 with a good patch", one_byte_more, all_ports(), at_the_end()),
-        trial("item 2, order: 2 before 31", edition_2, patch(1, 16, &[(9, 16)], vec![]), all_refused(2)),
+        trial("item 2, order: 2 before 31", edition_3, patch(1, 16, &[(9, 16)], vec![]), all_refused(2)),
         trial("item 2, order: 1 with a good patch", vec![], patch(0, 8, &[], vec![]), all_refused(1)),
         trial("item 2, order: 30 before 11", four_colliding(), vec![], colliding),
         trial("item 2, order: 32 before 11", four_colliding(), patch(0, 9, &[], vec![0]), all_refused(32)),

@@ -7,11 +7,15 @@ use crate::patch::put_in;
 use crate::patch_damage::damaged_patch;
 use crate::patch_draft::{NewVectors, PatchDraft};
 use crate::patches::{new_vectors, old_vectors, ports_with_vectors, repairing_vectors, Readable};
-use crate::picture::{Picture, Refusal, Target, Vector};
+use crate::picture::{Picture, Port, Refusal, Target, Vector};
 use crate::random::Random;
+use crate::redirects::{redirect_calls, redirecting_ports};
 
 /// How many damaged patches each picture that reads is tried with.
 const DAMAGED: usize = 4;
+
+/// How many walks from ports with redirect a trial has that are not about what its patch changes.
+const REDIRECTED: usize = 3;
 
 /// Writes trials on a picture: one with a good patch, some with damaged ones, and one with a patch that
 /// makes something sound. On a picture that does not read, one trial.
@@ -44,15 +48,46 @@ fn write_trial_on_nothing(random: &mut Random, batch: &mut Vec<u8>) {
 /// A trial with a good patch, with walks to what it changes and parts of all kinds.
 fn write_good_trial(random: &mut Random, of: Readable, new: &[NewVectors], batch: &mut Vec<u8>) {
     let patch = PatchDraft::of(new).bytes();
+    let redirected = redirected_after(&mut random.apart(), of, &patch);
     let walks = walks_after(random, of, &patch, 6);
     Record::Patch(patch).write(batch);
     write_all(&[Record::TrialReport, Record::TrialCheck], batch);
     write_all(&walks, batch);
+    write_all(&redirected, batch);
     if random.percent(20) {
         bad_walk(random).write(batch);
     }
     for _ in 0..4 {
         some_part(random, of, new).write(batch);
+    }
+}
+
+/// Writes trials on a picture for redirect: one with a good patch, and one in which a starting port lets go.
+pub fn write_redirect_trials(random: &mut Random, of: Readable, batch: &mut Vec<u8>) {
+    let new = new_vectors(random, of);
+    write_good_trial(random, of, &new, batch);
+    write_letting_go(random, of, batch);
+}
+
+/// A trial in which a port with redirect and vectors lets go of all that it claims by them, with walks from there
+/// to some of it; none if there is no such port.
+fn write_letting_go(random: &mut Random, of: Readable, batch: &mut Vec<u8>) {
+    let mut starts = redirecting_ports(of.picture);
+    starts.retain(|start| ports_with_vectors(of).contains(start));
+    if starts.is_empty() {
+        return;
+    }
+    let start = random.pick(&starts);
+    let mut new = old_vectors(of, start);
+    new.bytes.fill(0);
+    let patch = PatchDraft::of(&[new]).bytes();
+    let judge = Judge::of_trial(of.bytes, &patch);
+    let after = judge.reading().expect("the patch is good");
+    let mut addresses = changed_addresses(&of.picture.ports[start], &after.ports[start]);
+    random.shuffle(&mut addresses);
+    Record::Patch(patch).write(batch);
+    for target in addresses.into_iter().take(2) {
+        Record::TrialWalk { kind: 1, start: start as u32, target }.write(batch);
     }
 }
 
@@ -136,6 +171,32 @@ fn walks_after(random: &mut Random, of: Readable, patch: &[u8], count: usize) ->
         .collect()
 }
 
+/// Walks from ports with redirect, if there are any: a few to whatever is there after a good patch, one to what
+/// the patch changes, and one to what it changes at the starting port itself.
+fn redirected_after(random: &mut Random, of: Readable, patch: &[u8]) -> Vec<Record> {
+    let judge = Judge::of_trial(of.bytes, patch);
+    let after = judge.reading().expect("the patch is good");
+    let starts = redirecting_ports(after);
+    let changed_at = |port: usize| changed_addresses(&of.picture.ports[port], &after.ports[port]);
+    let anywhere: Vec<u64> = (0..after.ports.len()).flat_map(changed_at).collect();
+    let at_start: Vec<(usize, u64)> = starts
+        .iter()
+        .flat_map(|&start| changed_at(start).into_iter().map(move |address| (start, address)))
+        .collect();
+    let mut calls = redirect_calls(random, after);
+    random.shuffle(&mut calls);
+    calls.truncate(REDIRECTED);
+    let mut push = |start: usize, target| calls.push(Record::Walk { kind: 1, start: start as u32, target });
+    if !starts.is_empty() && !anywhere.is_empty() {
+        push(random.pick(&starts), random.pick(&anywhere));
+    }
+    if !at_start.is_empty() {
+        let (start, address) = random.pick(&at_start);
+        push(start, address);
+    }
+    calls.into_iter().map(in_trial).collect()
+}
+
 /// A walk to a target, just before it or just behind its smallest granule, or where the video range begins if
 /// the target is 0.
 fn walk_around(random: &mut Random, picture: &Picture, target: Target) -> Record {
@@ -156,10 +217,14 @@ fn changed_targets(before: &Picture, after: &Picture) -> Vec<Target> {
     let mut targets = Vec::new();
     for (old, new) in before.ports.iter().zip(&after.ports) {
         targets.extend(changed_entries(&old.rid, &new.rid).into_iter().map(|id| Target::Id(id as u16)));
-        targets.extend(changed_entries(&old.low, &new.low).into_iter().map(Target::Address));
-        targets.extend(changed_entries(&old.high, &new.high).into_iter().map(Target::Address));
+        targets.extend(changed_addresses(old, new).into_iter().map(Target::Address));
     }
     targets
+}
+
+/// The first address of each entry of a port's memory vectors that is set in one picture and clear in the other.
+fn changed_addresses(old: &Port, new: &Port) -> Vec<u64> {
+    [changed_entries(&old.low, &new.low), changed_entries(&old.high, &new.high)].concat()
 }
 
 /// The first target of each entry in which two vectors of the same setting differ.

@@ -31,10 +31,13 @@ pub struct Walk {
     pub path: Vec<usize>,
 }
 
-/// Walks an ID or address packet from the root (`None`) or from below a device port.
+/// Walks an ID or address packet from the root (`None`) or from below a device port. One that is redirected
+/// crosses all ports up to the root, whatever they are, and then goes as from the host.
 pub fn walk_packet(picture: &Picture, start: Option<usize>, target: Target) -> Walk {
-    let mut path = Vec::new();
-    let mut place = start;
+    let (mut place, mut path) = match start {
+        Some(port) if is_redirected(picture, port, target) => (None, picture.way_up(port)),
+        _ => (start, Vec::new()),
+    };
     let mut from_above = false;
     loop {
         let holders = picture.holders_at(place, target);
@@ -58,6 +61,13 @@ pub fn walk_packet(picture: &Picture, start: Option<usize>, target: Target) -> W
         };
         return Walk { end, path };
     }
+}
+
+/// Is a packet from below this device port redirected? Its target is an address that the port does not claim,
+/// and the port has P2P Request Redirect set.
+pub fn is_redirected(picture: &Picture, start: usize, target: Target) -> bool {
+    let port = &picture.ports[start];
+    matches!(target, Target::Address(_)) && port.request_redirect && !port.claims(target)
 }
 
 /// Nobody below the port holds what came from above: its device, or an Unsupported Request.

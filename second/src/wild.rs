@@ -1,6 +1,7 @@
 //! Random pictures that read but need not be sound, and noise that must not matter.
 
-use crate::draft::{Draft, DraftPort, VectorShape, Which, ALL_VECTORS, UPSTREAM};
+use crate::draft::{Draft, DraftPort, VectorShape, Which, ALL_VECTORS, REQUEST_REDIRECT, UPSTREAM};
+use crate::editions::in_either_edition;
 use crate::random::Random;
 use crate::sound::allowed_shapes;
 use crate::topology::{grow, port_count, ALL_FORMS};
@@ -37,7 +38,7 @@ pub fn wild(random: &mut Random) -> Draft {
             }
         }
     }
-    let mut draft = Draft::of(ports);
+    let mut draft = in_either_edition(random, ports);
     if random.percent(CROWDED) {
         crowd_the_first_mib(random, &mut draft);
     }
@@ -171,6 +172,7 @@ fn scribble_reserved_bits(random: &mut Random, port: &mut DraftPort) {
     port.rid_control_2 |= random.bits() as u32 & RID_2_RESERVED;
     port.low_control |= random.bits() as u32 & LOW_RESERVED;
     port.high_control_1 |= random.bits() as u32 & HIGH_1_RESERVED;
+    port.acs_control |= random.apart().bits() as u16 & !REQUEST_REDIRECT;
 }
 
 /// A vector of 256 random entries that is not enabled, with any granularity and start.

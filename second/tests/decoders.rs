@@ -298,6 +298,7 @@ fn a_tally_counts_claims_by_decoders_conversions_by_value_and_holders() {
         ("holders: one port", 2),
         ("holders: refused 16", 1),
         ("holders: several ports", 1),
+        ("picture: edition 1", 1),
     ];
     assert_eq!(counts, wanted.map(|(what, count)| (what.to_string(), count)));
 }

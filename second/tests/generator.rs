@@ -6,12 +6,12 @@ use std::sync::OnceLock;
 use second::batch::{answers, differences, Lent, Record, Records};
 use second::check::candidate_addresses;
 use second::draft::{Draft, DraftPort, NO_PARENT, ROOT};
+use second::edges::reading_edges;
 use second::generate::{generate, hand_written, sound_draft};
 use second::judge::Judge;
 use second::picture::{read, Picture, Port, VIDEO_RANGE};
 use second::random::Random;
 use second::samples::{sample, SAMPLE_NAMES};
-use second::spoil::reading_edges;
 use second::walk::{walk_configuration, End};
 use second::wild::{add_noise, wild};
 
@@ -155,10 +155,10 @@ fn the_same_seed_gives_the_same_batch() {
 }
 
 /// The seeds of the batches that tests/differential.sh takes, and how many pictures of each are looked at; for
-/// every five of these there is one more, for number 18.
+/// every five of these there is one more for number 18 and one for redirect.
 const SEEDS: [u64; 2] = [1, 2];
 const PICTURES: u64 = 250;
-const DRAWN: usize = SEEDS.len() * (PICTURES + PICTURES / 5) as usize;
+const DRAWN: usize = SEEDS.len() * (PICTURES + 2 * (PICTURES / 5)) as usize;
 
 /// The records of a batch with the answers to its calls.
 fn answered(seed: u64) -> Vec<(Record, Option<String>)> {

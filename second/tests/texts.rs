@@ -5,6 +5,7 @@ use second::explain::{explain, number_text, NUMBER_TEXTS};
 use second::explain_trial::PATCH_TEXTS;
 use second::generate::pictures;
 use second::judge::Judge;
+use second::picture::Edition;
 use second::tree::tree;
 
 /// A root port 00:01.0 that claims nothing.
@@ -15,6 +16,11 @@ fn root() -> DraftPort {
 /// The bytes of a picture of these ports.
 fn bytes(ports: &[DraftPort]) -> Vec<u8> {
     Draft::of(ports.to_vec()).bytes()
+}
+
+/// The same in edition 2.
+fn bytes_2(ports: &[DraftPort]) -> Vec<u8> {
+    Draft::in_edition(Edition::Two, ports.to_vec()).bytes()
 }
 
 /// A shape of 256 entries.
@@ -63,12 +69,31 @@ fn lengths_and_headers() {
         picture[at] = value;
         picture
     };
-    says(&with(0, 2), "refused 2", ": it is 2");
+    says(&with(0, 2), "refused 1", ": it has 72 bytes");
+    says(&with(0, 3), "refused 2", ": it is 3");
     says(&with(1, 1), "refused 2", ": it is 257");
     says(&with(2, 0), "refused 3", ": it has none");
     says(&with(2, 65), "refused 3", ": it has 65");
     says(&with(4, 73), "refused 4", ": the header says 73, and the picture has 72 bytes");
     says(&with(8, 17), "refused 5", "");
+}
+
+#[test]
+fn lengths_and_headers_of_edition_2() {
+    let good = bytes_2(&[root()]);
+    assert_eq!(good.len(), 76);
+    says(&good[..75], "refused 1", ": it has 75 bytes");
+    let with = |at: usize, value: u8| {
+        let mut picture = good.clone();
+        picture[at] = value;
+        picture
+    };
+    says(&with(0, 0), "refused 2", ": it is 0");
+    says(&with(1, 1), "refused 2", ": it is 258");
+    says(&with(2, 0), "refused 3", ": it has none");
+    says(&with(4, 72), "refused 4", ": the header says 72, and the picture has 76 bytes");
+    says(&with(12, 72), "refused 5", "");
+    says(&with(0, 1), "refused 5", "");
 }
 
 #[test]
@@ -135,6 +160,30 @@ fn every_cause_of_number_8() {
 }
 
 #[test]
+fn bytes_after_acs_control() {
+    let refused = |ports: &[DraftPort], follows: &str| {
+        says(&bytes_2(ports), "refused 8 ports 0", &format!(": port 0 (00:01.0, a root port){follows}"));
+    };
+    let with = |after_acs_control| DraftPort { acs_control: 0xFFFF, after_acs_control, ..root() };
+    refused(&[with(0x1234)], "; the two bytes after its ACS Control hold 1234");
+    refused(&[with(0x0001)], "; the two bytes after its ACS Control hold 0001");
+    refused(&[with(0xAB00), with(0x0002)], "; the two bytes after its ACS Control hold ab00");
+    let mut all = with(0x0100);
+    all.set_enabled(Which::High, true);
+    all.memory_base = 0xE001;
+    let high = "; its MEM High vector is enabled but not supported";
+    let registers = "; it has Memory Base e001 and Limit 0000, Prefetchable Memory Base fff0 and Limit 0000";
+    refused(&[all.clone()], &format!("{high}{registers}; the two bytes after its ACS Control hold 0100"));
+    // edition 1 does not have them
+    let follows = format!(": port 0 (00:01.0, a root port){high}{registers}");
+    says(&bytes(&[all]), "refused 8 ports 0", &follows);
+    // causes of another port are not told
+    let mut low_bits = root();
+    low_bits.memory_base = 0xE001;
+    refused(&[low_bits, with(0x1234)], registers);
+}
+
+#[test]
 fn every_cause_of_number_9() {
     let refused = |port: DraftPort, follows: &str| {
         says(&bytes(&[port]), "refused 9 ports 0", &format!(": port 0 (00:01.0, a root port){follows}"));
@@ -160,6 +209,13 @@ fn vectors_elsewhere() {
     picture.push(0);
     picture[4] = 73;
     says(&picture, "refused 10 ports 255", ": the last ones do not, and the picture has 73 bytes");
+    let mut picture = bytes_2(&[root()]);
+    picture[16 + 52] = 72;
+    says(&picture, "refused 10 ports 0", ": those of port 0 (00:01.0, a root port) begin at byte 72");
+    let mut picture = bytes_2(&[root()]);
+    picture.push(0);
+    picture[4] = 77;
+    says(&picture, "refused 10 ports 255", ": the last ones do not, and the picture has 77 bytes");
 }
 
 #[test]
@@ -406,6 +462,34 @@ fn the_video_range_in_the_drawing() {
 }
 
 #[test]
+fn redirect_in_the_drawing() {
+    let below = |own_id| DraftPort::silent(DOWNSTREAM, 1, own_id);
+    let ports = [
+        root().redirecting(),
+        DraftPort::silent(UPSTREAM, 0, 0x0100).redirecting(),
+        below(0x0200).redirecting(),
+        below(0x0208).with_ari().redirecting().memory(0xE00, 0xE00),
+        DraftPort { acs_control: !4, ..below(0x0210) },
+        DraftPort { acs_control: 0xFFFF, ..DraftPort::silent(ROOT, NO_PARENT, 0x0010) },
+        DraftPort::silent(UPSTREAM, 4, 0x0400).redirecting(),
+    ];
+    let off = "; memory space off";
+    let lines = [
+        format!("-+-00:01.0-[]  port 0, root port{off}"),
+        format!(" |  \\-01:00.0-[]  port 1, switch upstream port{off}"),
+        format!(" |     +-02:00.0-[]  port 2, switch downstream port, device port, redirect{off}"),
+        " |     +-02:01.0-[]  port 3, switch downstream port, device port, ARI, redirect; memory e0000000-e00fffff"
+            .to_string(),
+        format!(" |     \\-02:02.0-[]  port 4, switch downstream port{off}"),
+        format!(" |        \\-04:00.0-[]  port 6, switch upstream port{off}"),
+        format!(" \\-00:02.0-[]  port 5, root port, device port, redirect{off}"),
+    ];
+    let drawn = tree(&bytes_2(&ports));
+    assert_eq!(drawn, lines.join("\n") + "\n");
+    assert_eq!(tree(&bytes(&ports)), drawn.replace(", redirect", ""));
+}
+
+#[test]
 fn a_picture_that_does_not_read_is_refused() {
     assert_eq!(tree(&[]), "refused 1\n");
     let mut picture = bytes(&[root()]);
@@ -427,7 +511,7 @@ fn pictures_of_all_numbers_occur_and_one_seed_gives_the_same() {
 }
 
 /// What the texts of 150 pictures, as many as tests/differential.sh takes, have somewhere.
-const PHRASES: [&str; 53] = [
+const PHRASES: [&str; 56] = [
     "it has none",
     "it has more than 65,536.",
     "the header says",
@@ -443,6 +527,7 @@ const PHRASES: [&str; 53] = [
     "MEM High vector is enabled but not supported",
     "and granularity code",
     "Prefetchable Memory Base",
+    "; the two bytes after its ACS Control hold ",
     "RID vector starts at",
     "MEM Low vector starts at",
     "MEM High vector starts at",
@@ -477,6 +562,8 @@ const PHRASES: [&str; 53] = [
     "device port; video 000a0000-000bffff",
     "; video 000a0000-000bffff; ",
     ", device port, ARI; ",
+    ", device port, redirect; ",
+    ", device port, ARI, redirect; ",
     "; MEM High vector ",
     "\n |  ",
     "\n    ",
@@ -492,6 +579,12 @@ fn every_phrase_occurs() {
     let without_granularity =
         |part: &str| part.contains("has size code") && !part.contains("granularity code");
     assert!(texts.split([';', '\n']).any(without_granularity));
+    let bytes_behind = |before: &str| {
+        let parts =
+            texts.lines().filter_map(|line| line.split_once("; the two bytes after its ACS Control hold "));
+        parts.filter(|(front, _)| front.contains(before) && front.contains(')')).count()
+    };
+    assert!(bytes_behind("Prefetchable Memory Base") > 0 && bytes_behind(" vector ") > 0);
     let of_18 = |end: &str| texts.lines().any(|line| line.contains("is claimed by") && line.ends_with(end));
     assert!(of_18("makes configuration requests for it Type 0."));
     assert!(of_18("answers configuration requests for it with Unsupported Request."));
