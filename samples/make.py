@@ -7,6 +7,8 @@ HERE = os.path.dirname(os.path.abspath(__file__))
 ROOT, UPSTREAM, DOWNSTREAM = 0, 1, 2
 MEMORY_SPACE, ARI = 2, 1 << 5
 VGA, VGA_16_BIT = 1 << 3, 1 << 4
+REDIRECT = 1 << 2
+RECORD_LENGTH = {1: 56, 2: 60}
 RID, LOW, HIGH = 0, 1, 2
 SIZE_SHIFT = {RID: 8, LOW: 16, HIGH: 24}
 
@@ -15,10 +17,10 @@ class Port:
     """A port's record and vectors; what is not said is off: no buses, empty memory windows, no vectors."""
 
     def __init__(self, kind, parent, own, buses=(0, 0), command=MEMORY_SPACE, memory=(0xFFF0, 0), prefetchable=(0xFFF1, 1),
-                 upper=(0, 0), device_control_2=0, bridge_control=0):
+                 upper=(0, 0), device_control_2=0, bridge_control=0, acs_control=0):
         self.kind, self.parent, self.own, self.buses, self.command = kind, parent, own, buses, command
         self.memory, self.prefetchable, self.upper = memory, prefetchable, upper
-        self.device_control_2, self.bridge_control = device_control_2, bridge_control
+        self.device_control_2, self.bridge_control, self.acs_control = device_control_2, bridge_control, acs_control
         self.capabilities, self.controls, self.vectors = 0, [0, 0, 0, 0, 0], {}
 
     def vector(self, which, size_code, granularity, start, entries, enabled=True):
@@ -43,20 +45,22 @@ class Port:
         self.capabilities |= num_sec_dev << 3
         return self
 
-    def record(self, vectors_at):
-        return struct.pack('<BBHHBBHHHHIIHHIIIIIII', self.kind, self.parent, self.own, self.command, *self.buses, *self.memory,
+    def record(self, vectors_at, edition):
+        """ACS Control, and the two zeros behind it, are in edition 2 alone."""
+        both = struct.pack('<BBHHBBHHHHIIHHIIIIIIIHH', self.kind, self.parent, self.own, self.command, *self.buses, *self.memory,
                            *self.prefetchable, *self.upper, self.device_control_2, self.bridge_control, self.capabilities,
-                           *self.controls, vectors_at)
+                           *self.controls, vectors_at, self.acs_control, 0)
+        return both[:RECORD_LENGTH[edition]]
 
     def vector_bytes(self):
         return b''.join(self.vectors[w] for w in sorted(self.vectors))
 
 
 def picture(ports, edition=1):
-    at = 16 + 56 * len(ports)
+    at = 16 + RECORD_LENGTH[edition] * len(ports)
     records, vectors = b'', b''
     for port in ports:
-        records += port.record(at + len(vectors))
+        records += port.record(at + len(vectors), edition)
         vectors += port.vector_bytes()
     total = at + len(vectors)
     return struct.pack('<HHIII', edition, len(ports), total, 16, at) + records + vectors
@@ -137,11 +141,16 @@ def chain(length):
     return [Port(kind, i - 1 if i else 255, 8 * i) for i, kind in enumerate(kinds)]
 
 
-def nested(bus, length, root_id, first=0):
-    """A sound chain whose first port is number `first`: every port has one bus of its own, and all that lie below it."""
+def nested(bus, length, root_id, first=0, more=15, **registers):
+    """A sound chain whose first port is number `first`: every port has one bus of its own, and all that lie below it, to bus + more."""
     kinds = [ROOT] + [UPSTREAM if i % 2 else DOWNSTREAM for i in range(1, length)]
-    return [Port(kind, first + i - 1 if i else 255, (bus + i - 1) << 8 if i else root_id, buses=(bus + i, bus + 15))
+    return [Port(kind, first + i - 1 if i else 255, (bus + i - 1) << 8 if i else root_id, buses=(bus + i, bus + more), **registers)
             for i, kind in enumerate(kinds)]
+
+
+def acs_port(own, bus, acs_control, low):
+    """A downstream port with an ACS Control, and a MEM Low vector from E0000000h on."""
+    return Port(DOWNSTREAM, 1, own, buses=(bus, bus), acs_control=acs_control).vector(LOW, 0, 0, 0xE00, low)
 
 
 def changed(data, at, new):
@@ -150,6 +159,10 @@ def changed(data, at, new):
 
 # the paper's own picture: one root port with bus 1, Memory E0000000h to E00FFFFFh and an empty Prefetchable window
 ONE_PORT = bytes.fromhex('01000100480000001000000048000000 00FF0800020001 0100E000E0F0FF0000'.replace(' ', '')) + bytes(36) + bytes.fromhex('48000000')
+
+# the same in edition 2, with P2P Request Redirect
+ONE_PORT_OF_2 = picture([Port(ROOT, 255, 0x0008, buses=(1, 1), memory=(0xE000, 0xE000), prefetchable=(0xFFF0, 0), acs_control=REDIRECT)],
+                        edition=2)
 
 SWITCH = [
     Port(ROOT, 255, 0x0008, buses=(1, 4)),
@@ -175,7 +188,7 @@ SAMPLES = {
     # the longest way there is: up from the device port 14, and down to the upstream port 30 over 31 ports
     'two-chains': picture(nested(1, 15, 0x0008) + nested(32, 16, 0x0010, first=15)),
     'short': ONE_PORT[:71],
-    'edition-2': changed(ONE_PORT, 0, [2, 0]),
+    'edition-3': changed(ONE_PORT, 0, [3, 0]),
     'no-port': changed(ONE_PORT, 2, [0, 0]),
     'total-wrong': changed(ONE_PORT, 4, [0x49]),
     'records-elsewhere': changed(ONE_PORT, 8, [17]),
@@ -302,6 +315,41 @@ SAMPLES = {
         Port(UPSTREAM, 0, 0x0100, buses=(2, 3)).vector(RID, 0, 0, 0x20, [1]),
         Port(DOWNSTREAM, 1, 0x0300),
     ]),
+    'one-port-edition-2': ONE_PORT_OF_2,
+    # redirect at the device ports 2, 3 and 5 of edition 2; ports 0 and 1 have its bit too, but no device, and port 4 the bits beside it
+    'redirect': picture([
+        Port(ROOT, 255, 0x0008, buses=(1, 5), memory=(0xE000, 0xE0F0), acs_control=REDIRECT),
+        Port(UPSTREAM, 0, 0x0100, buses=(2, 5), memory=(0xE000, 0xE0F0), acs_control=REDIRECT),
+        acs_port(0x0200, 3, REDIRECT, [1, 5]),
+        Port(DOWNSTREAM, 1, 0x0208, buses=(4, 4), memory=(0xE060, 0xE070), device_control_2=ARI, acs_control=0x1D),
+        acs_port(0x0210, 5, 1 << 3 | 1 << 1, [9]),
+        Port(ROOT, 255, 0x0010, buses=(6, 6), memory=(0xD000, 0xD000), acs_control=REDIRECT),
+    ], edition=2),
+    # the longest ways of a redirected packet: up from the device port 14 over 15 ports, and down over 16, to port 30 of the other
+    # chain, or over the same ports to port 32, beside port 14
+    'redirect-two-chains': picture(nested(1, 14, 0x0008, more=17, memory=(0xD000, 0xD000)) + [
+        Port(DOWNSTREAM, 13, 0x0E00, buses=(15, 15), acs_control=REDIRECT),
+    ] + nested(32, 16, 0x0010, first=15, memory=(0xE000, 0xE000)) + [
+        Port(DOWNSTREAM, 13, 0x0E08, buses=(16, 18), memory=(0xD000, 0xD000)),
+        Port(UPSTREAM, 31, 0x1000, buses=(17, 18), memory=(0xD000, 0xD000)),
+    ], edition=2),
+    # ports 2 and 3 share two granules, of which port 6 has the second and the ports above them the first alone; redirect at port 4
+    'redirect-past-two-holders': picture([
+        Port(ROOT, 255, 0x0008, buses=(1, 6), memory=(0xE000, 0xE0F0)),
+        Port(UPSTREAM, 0, 0x0100, buses=(2, 6), memory=(0xE000, 0xE0F0)),
+        acs_port(0x0200, 3, 0, [5, 32]),
+        acs_port(0x0208, 4, 0, [5, 32]),
+        Port(DOWNSTREAM, 1, 0x0210, buses=(5, 5), acs_control=REDIRECT),
+        Port(DOWNSTREAM, 1, 0x0218, buses=(6, 6)),
+        Port(ROOT, 255, 0x0010, buses=(7, 7), memory=(0xE200, 0xE200)),
+    ], edition=2),
+    'own-id-claimed-edition-2': picture([Port(ROOT, 255, 0x0008), Port(ROOT, 255, 0x0108, buses=(1, 1))], edition=2),
+    'edition-2-short': ONE_PORT_OF_2[:75],
+    'edition-2-offsets-of-1': changed(picture(SWITCH, edition=2), 12, struct.pack('<I', 16 + 56 * 4)),
+    'acs-not-zero': changed(picture([Port(ROOT, 255, 8), Port(ROOT, 255, 16)], edition=2), 16 + 60 + 59, [0x12]),
+    # a port with every cause of 8 but a vector that is not supported
+    'settings-all-wrong': changed(picture([Port(ROOT, 255, 8, memory=(0xE001, 0xE000)).vector(RID, 1, 0, 0, [])], edition=2), 16 + 58,
+                                  [0x34, 0x12]),
 }
 
 # patches by the picture that they are for, and what they do
@@ -323,6 +371,9 @@ PATCHES = {
     'flat-switch.taken': patch((4, below_ari([0x42, 0x60, 0x61]))),
     # the entry is on bus 4, which the port has
     'taken-bus.mends': patch((3, scattered([64]))),
+    # port 2 gets the granule of port 4, which has another or keeps it: what the device of port 2 sends there is not redirected
+    'redirect.moves': patch((2, acs_port(0x0200, 3, REDIRECT, [9])), (4, acs_port(0x0210, 5, 1 << 3 | 1 << 1, [5]))),
+    'redirect.collides': patch((2, acs_port(0x0200, 3, REDIRECT, [9]))),
     # a patch over a picture that does not read
     'short.nothing': patch(),
     'waiting-card.no-bytes': b'',

@@ -54,6 +54,7 @@ example() {
     local own='number 11, an ID has two holders at one place, or a port claims its own ID'
     local stray='number 13, a port holds an ID that its parent does not claim'
     local taken='number 18, a port claims an ID that its parent makes Type 0 or refuses and does not pass on as Type 1'
+    local short='number 1, the picture is shorter than 72 bytes (76 in edition 2) or longer than 65,536'
     shared="$shared/port 2 holds it by low/port 3 holds it by low"
     local video='number 12, an address has two holders at one place; port 2 and port 3, least target a0000'
     video="$video/port 2 holds it by mem pref low vga/port 3 holds it by vga"
@@ -66,6 +67,8 @@ example() {
         "$@" samples/shared-granule.picture address host e0500000
     prints 1 "check: $video/" "$@" samples/four-decoders.picture
     prints 1 "check: $own; port 0 and port 0, least target 108/port 0 holds it by own bus/" "$@" samples/own-id-claimed.picture
+    prints 1 "check: $own; port 1 and port 1, least target 108/port 1 holds it by own bus/" \
+        "$@" samples/own-id-claimed-edition-2.picture
     prints 1 "check: $stray; port 1, least target 200/port 1 holds it by bus/" "$@" samples/stray-id.picture
     prints 1 "check: $stray; port 1, least target 8/port 1 holds it by own/" \
         "$@" samples/chain-of-16.picture
@@ -74,7 +77,10 @@ example() {
     prints 1 "check: $taken; port 3, least target 308/port 3 holds it by bus rid/" "$@" samples/taken-unit.picture
     prints 0 'check: clear/walk: function port 3, crossing 0 1 2/' "$@" samples/range-off.picture config host 0300
     prints 1 "check: $chain/walk: $chain/" "$@" samples/chain-of-17.picture id 4 0300
-    prints 1 'check: number 1, the picture is shorter than 72 bytes or longer than 65,536/' "$@" samples/short.picture
+    prints 0 'check: clear/walk: device port 2, crossing 3 1 0 0 1 2/' "$@" samples/redirect.picture address 3 e0500000
+    prints 1 "check: $short/" "$@" samples/short.picture
+    prints 1 "check: $short/" "$@" samples/edition-2-short.picture
+    prints 1 "check: number 2, the picture's edition is neither 1 nor 2/" "$@" samples/edition-3.picture
     prints 2 '|chassis: samples/none cannot be opened/' "$@" samples/none
     prints 2 '|chassis: samples cannot be read/' "$@" samples
     prints 2 '|chassis: the output cannot be written/' to_full "$@" samples/switch.picture
@@ -120,7 +126,7 @@ clear_samples() {
 
 strict=(-Wall -Wextra -Wpedantic -Werror)
 languages="c:c99 c:c11 c++:c++11 c++:c++17"
-programs="tests/c/calls.c tests/c/claims.c examples/chassis.c"
+programs="tests/c/calls.c tests/c/claims.c tests/c/editions.c examples/chassis.c"
 
 # compiled COMMAND..: that the header by itself and the test programs compile as each language
 compiled() {
@@ -140,6 +146,7 @@ by_kit() {
     done
     counts run_x86 "$work/calls" samples tests/number-texts
     counts run_x86 "$work/claims" samples
+    counts run_x86 "$work/editions" samples
     example run_x86 "$work/chassis"
     example_words run_x86 "$work/chassis"
 }
@@ -158,6 +165,7 @@ by_host() {
     done
     counts "$work/calls-host" samples tests/number-texts
     counts "$work/claims-host" samples
+    counts "$work/editions-host" samples
     example "$work/chassis-host"
     example_words "$work/chassis-host"
 }

@@ -39,14 +39,14 @@ struct patch_case {
 /* Entry i of a vector that begins at byte `at` of the patch; 0 is none. */
 #define ENTRY(at, i) (8 * (at) + (i))
 
-/* A sample, in which the byte `at` is changed first unless that is 0, and a patch. */
+/* A sample, in which the byte `at`, as byte_of finds it, is changed first unless that is 0, and a patch. */
 struct trial_case {
     size_t at;
     uint8_t byte;
     struct patch_case patch;
 };
 
-/* A sample in which the byte `at` is changed. */
+/* A sample in which the byte `at`, as byte_of finds it, is changed. */
 struct changed_check {
     size_t at;
     uint8_t byte;
@@ -80,7 +80,7 @@ static const struct check_case checks[] = {
     {"switch", {0, 0, 255, 255, 0, 0, 0, 0}, 0},
     {"two-chains", {0, 0, 255, 255, 0, 0, 0, 0}, 0},
     {"short", {1, 0, 255, 255, 0, 0, 0, 0}, 0},
-    {"edition-2", {2, 0, 255, 255, 0, 0, 0, 0}, 0},
+    {"edition-3", {2, 0, 255, 255, 0, 0, 0, 0}, 0},
     {"no-port", {3, 0, 255, 255, 0, 0, 0, 0}, 0},
     {"total-wrong", {4, 0, 255, 255, 0, 0, 0, 0}, 0},
     {"records-elsewhere", {5, 0, 255, 255, 0, 0, 0, 0}, 0},
@@ -113,6 +113,15 @@ static const struct check_case checks[] = {
     {"taken-twice", {18, 0, 2, 255, 0, 0, 0, 0}, 0x0308},
     {"turned-away", {18, 0, 1, 255, 0, 0, 0, 0}, 0x0108},
     {"fifteen-before-eighteen", {15, 0, 2, 255, 0, 0, 0, 0}, 0},
+    {"one-port-edition-2", {0, 0, 255, 255, 0, 0, 0, 0}, 0},
+    {"redirect", {0, 0, 255, 255, 0, 0, 0, 0}, 0},
+    {"redirect-two-chains", {0, 0, 255, 255, 0, 0, 0, 0}, 0},
+    {"redirect-past-two-holders", {12, 0, 2, 3, 0, 0, 0, 0}, 0xE0500000},
+    {"own-id-claimed-edition-2", {11, 0, 1, 1, 0, 0, 0, 0}, 0x0108},
+    {"edition-2-short", {1, 0, 255, 255, 0, 0, 0, 0}, 0},
+    {"edition-2-offsets-of-1", {5, 0, 255, 255, 0, 0, 0, 0}, 0},
+    {"acs-not-zero", {8, 0, 1, 255, 0, 0, 0, 0}, 0},
+    {"settings-all-wrong", {8, 0, 0, 255, 0, 0, 0, 0}, 0},
 };
 
 static const struct walk_case walks[] = {
@@ -159,7 +168,7 @@ static const struct walk_case walks[] = {
     {"fifteen-before-eighteen", FPB_CONFIG, FPB_HOST, 0x0300, {0, 4, 1, 255, 2, 0, 0, 0}, {0, 1}},
     {"fifteen-before-eighteen", FPB_CONFIG, FPB_HOST, 0x0108, {0, 4, 0, 255, 0, 0, 0, 0}, UNUSED},
     {"short", FPB_ID, FPB_HOST, 0, {1, 0, 255, 255, 0, 0, 0, 0}, UNUSED},
-    {"edition-2", FPB_ID, FPB_HOST, 0, {2, 0, 255, 255, 0, 0, 0, 0}, UNUSED},
+    {"edition-3", FPB_ID, FPB_HOST, 0, {2, 0, 255, 255, 0, 0, 0, 0}, UNUSED},
     {"no-port", FPB_ID, FPB_HOST, 0, {3, 0, 255, 255, 0, 0, 0, 0}, UNUSED},
     {"total-wrong", FPB_ID, FPB_HOST, 0, {4, 0, 255, 255, 0, 0, 0, 0}, UNUSED},
     {"records-elsewhere", FPB_ID, FPB_HOST, 0, {5, 0, 255, 255, 0, 0, 0, 0}, UNUSED},
@@ -177,15 +186,74 @@ static const struct walk_case walks[] = {
     {"switch", FPB_ID, 511, 0x0300, {16, 0, 255, 255, 0, 0, 0, 0}, UNUSED},
 };
 
-/* A byte in the record of a port: the low bytes of its own ID and registers, and Subordinate; one more is the next byte. */
-#define OWN_ID(port) (16 + 56 * (port) + 2)
-#define COMMAND(port) (16 + 56 * (port) + 4)
-#define SUBORDINATE(port) (16 + 56 * (port) + 7)
-#define DEVICE_CONTROL_2(port) (16 + 56 * (port) + 24)
-#define BRIDGE_CONTROL(port) (16 + 56 * (port) + 26)
-#define CAPABILITIES(port) (16 + 56 * (port) + 28)
-#define RID_CONTROL_1(port) (16 + 56 * (port) + 32)
-#define RID_CONTROL_2(port) (16 + 56 * (port) + 36)
+/* Up from the device port 14 of redirect-two-chains to its root port. */
+#define UP_FROM_14 14, 13, 12, 11, 10, 9, 8, 7, 6, 5, 4, 3, 2, 1, 0
+
+/* Walks in edition 2. Of redirect, ports 2, 3 and 5 redirect and port 4 does not; of redirect-past-two-holders, port 4 does and
+ * port 5 does not. */
+static const struct walk_case redirected[] = {
+    {"redirect", FPB_ADDRESS, 3, 0xE0500000, {0, 1, 2, 255, 6, 0, 0, 0}, {3, 1, 0, 0, 1, 2}},
+    {"redirect", FPB_ADDRESS, 3, 0xE0900000, {0, 1, 4, 255, 6, 0, 0, 0}, {3, 1, 0, 0, 1, 4}},
+    {"redirect", FPB_ADDRESS, 2, 0xE0600000, {0, 1, 3, 255, 6, 0, 0, 0}, {2, 1, 0, 0, 1, 3}},
+    {"redirect", FPB_ADDRESS, 2, 0xE0800000, {0, 4, 1, 255, 5, 0, 0, 0}, {2, 1, 0, 0, 1}},
+    {"redirect", FPB_ADDRESS, 3, 0x10000000, {0, 3, 255, 255, 3, 0, 0, 0}, {3, 1, 0}},
+    {"redirect", FPB_ADDRESS, 3, 0xFFFFFFFFFFFFFFFF, {0, 3, 255, 255, 3, 0, 0, 0}, {3, 1, 0}},
+    {"redirect", FPB_ADDRESS, 3, 0xD0000000, {0, 1, 5, 255, 4, 0, 0, 0}, {3, 1, 0, 5}},
+    {"redirect", FPB_ADDRESS, 3, 0xE0600000, {0, 4, 3, 255, 0, 0, 0, 0}, UNUSED},
+    {"redirect", FPB_ADDRESS, 2, 0xE0100000, {0, 4, 2, 255, 0, 0, 0, 0}, UNUSED},
+    {"redirect", FPB_ADDRESS, 4, 0xE0500000, {0, 1, 2, 255, 2, 0, 0, 0}, {4, 2}},
+    {"redirect", FPB_ADDRESS, 4, 0xE0800000, {0, 4, 1, 255, 1, 0, 0, 0}, {4}},
+    {"redirect", FPB_ADDRESS, 5, 0xE0500000, {0, 1, 2, 255, 4, 0, 0, 0}, {5, 0, 1, 2}},
+    {"redirect", FPB_ADDRESS, 5, 0xD0000000, {0, 4, 5, 255, 0, 0, 0, 0}, UNUSED},
+    {"redirect", FPB_ADDRESS, FPB_HOST, 0xE0500000, {0, 1, 2, 255, 3, 0, 0, 0}, {0, 1, 2}},
+    {"redirect", FPB_ADDRESS, 1, 0xE0500000, {16, 0, 255, 255, 0, 0, 0, 0}, UNUSED},
+    {"redirect", FPB_ADDRESS, 0, 0xE0500000, {16, 0, 255, 255, 0, 0, 0, 0}, UNUSED},
+    {"redirect", FPB_ID, 3, 0x0300, {0, 1, 2, 255, 2, 0, 0, 0}, {3, 2}},
+    {"redirect", FPB_ID, 3, 0x0600, {0, 1, 5, 255, 4, 0, 0, 0}, {3, 1, 0, 5}},
+    {"redirect", FPB_ID, 3, 0x0208, {0, 2, 3, 255, 1, 0, 0, 0}, {3}},
+    {"redirect", FPB_CONFIG, 3, 0x0300, {0, 4, 3, 255, 0, 0, 0, 0}, UNUSED},
+    {"redirect", FPB_CONFIG, FPB_HOST, 0x0408, {0, 1, 3, 255, 3, 8, 0, 0}, {0, 1, 3}},
+    {"redirect-two-chains",
+     FPB_ADDRESS,
+     14,
+     0xE0000000,
+     {0, 4, 30, 255, 31, 0, 0, 0},
+     {UP_FROM_14, 15, 16, 17, 18, 19, 20, 21, 22, 23, 24, 25, 26, 27, 28, 29, 30}},
+    {"redirect-two-chains",
+     FPB_ADDRESS,
+     14,
+     0xD0000000,
+     {0, 4, 32, 255, 31, 0, 0, 0},
+     {UP_FROM_14, 0, 1, 2, 3, 4, 5, 6, 7, 8, 9, 10, 11, 12, 13, 31, 32}},
+    {"redirect-two-chains", FPB_ADDRESS, 14, 0, {0, 3, 255, 255, 15, 0, 0, 0}, {UP_FROM_14}},
+    {"redirect-two-chains", FPB_ID, 14, 0x1000, {0, 2, 32, 255, 2, 0, 0, 0}, {14, 31}},
+    {"redirect-past-two-holders", FPB_ADDRESS, 4, 0xE0500000, {0, 5, 2, 3, 5, 0, 0, 0}, {4, 1, 0, 0, 1}},
+    {"redirect-past-two-holders", FPB_ADDRESS, 5, 0xE0500000, {0, 5, 2, 3, 1, 0, 0, 0}, {5}},
+    {"redirect-past-two-holders", FPB_ADDRESS, 4, 0xE2000000, {0, 1, 6, 255, 4, 0, 0, 0}, {4, 1, 0, 6}},
+    {"redirect-past-two-holders", FPB_ADDRESS, 5, 0xE2000000, {0, 5, 2, 3, 1, 0, 0, 0}, {5}},
+    {"redirect-past-two-holders", FPB_ADDRESS, 4, 0xE0200000, {0, 4, 1, 255, 5, 0, 0, 0}, {4, 1, 0, 0, 1}},
+    {"one-port-edition-2", FPB_ADDRESS, 0, 0xE0100000, {0, 3, 255, 255, 1, 0, 0, 0}, {0}},
+    {"one-port-edition-2", FPB_ADDRESS, 0, 0xE0000000, {0, 4, 0, 255, 0, 0, 0, 0}, UNUSED},
+    {"edition-2-short", FPB_ADDRESS, 0, 0, {1, 0, 255, 255, 0, 0, 0, 0}, UNUSED},
+    {"edition-2-offsets-of-1", FPB_ADDRESS, 2, 0, {5, 0, 255, 255, 0, 0, 0, 0}, UNUSED},
+    {"acs-not-zero", 9, 9, 0, {8, 0, 1, 255, 0, 0, 0, 0}, UNUSED},
+};
+
+/* A byte in the record of a port, whatever the edition: a number past all bytes of a picture, from which byte_of finds it. */
+#define RECORDS 0x10000
+#define ROOM_OF_RECORD 64
+#define IN_RECORD(port, at) (RECORDS + ROOM_OF_RECORD * (port) + (at))
+
+/* The low bytes of a port's own ID and registers, and Subordinate; one more is the next byte. */
+#define OWN_ID(port) IN_RECORD(port, 2)
+#define COMMAND(port) IN_RECORD(port, 4)
+#define SUBORDINATE(port) IN_RECORD(port, 7)
+#define DEVICE_CONTROL_2(port) IN_RECORD(port, 24)
+#define BRIDGE_CONTROL(port) IN_RECORD(port, 26)
+#define CAPABILITIES(port) IN_RECORD(port, 28)
+#define RID_CONTROL_1(port) IN_RECORD(port, 32)
+#define RID_CONTROL_2(port) IN_RECORD(port, 36)
+#define ACS_CONTROL(port) IN_RECORD(port, 56)
 #define MEMORY_SPACE 2
 #define ARI (1 << 5)
 #define VGA (1 << 3)
@@ -193,6 +261,7 @@ static const struct walk_case walks[] = {
 #define RID_ON 1
 #define RID_SUPPORTED 1
 #define SEC_DEV(n) (RID_SUPPORTED | (n) << 3)
+#define REDIRECT (1 << 2)
 
 /* VGA Enable with and without Memory Space Enable, at ports with a display, beside and above them; in the last, nobody below the
  * switch has the video range by it, and port 2 has the first MiB. */
@@ -259,7 +328,9 @@ static const struct changed_check changed_ranges[] = {
 
 /* With ARI set at port 2 of the switch, a configuration request for 0308h ends at the device's Function 8. With VGA Enable or
  * Memory Space Enable changed at a port, a packet to the video range ends elsewhere. With RID decoding or the Secondary range
- * changed, the host finds port 3 or loses it; with ARI the root port lets a request through, to what is right below it. */
+ * changed, the host finds port 3 or loses it; with ARI the root port lets a request through, to what is right below it. ACS Control
+ * counts at the starting port alone, and of it bit 2; with Memory Space Enable off, the starting port claims nothing and redirects,
+ * and a port above lets the packet pass upward, but not down. */
 static const struct changed_walk changed_walks[] = {
     {DEVICE_CONTROL_2(2), ARI, {"switch", FPB_CONFIG, FPB_HOST, 0x0308, {0, 1, 2, 255, 3, 8, 0, 0}, {0, 1, 2}}},
     {BRIDGE_CONTROL(0), 0, {"display-card", FPB_ADDRESS, FPB_HOST, 0xA0000, {0, 3, 255, 255, 0, 0, 0, 0}, UNUSED}},
@@ -272,12 +343,25 @@ static const struct changed_walk changed_walks[] = {
     {RID_CONTROL_1(1), RID_ON, {"range-off", FPB_CONFIG, FPB_HOST, 0x0300, {0, 4, 1, 255, 2, 0, 0, 0}, {0, 1}}},
     {CAPABILITIES(1), SEC_DEV(30), {"taken-id", FPB_CONFIG, FPB_HOST, 0x0300, {0, 2, 3, 255, 3, 0, 0, 0}, {0, 1, 2}}},
     {DEVICE_CONTROL_2(0), ARI, {"turned-away", FPB_CONFIG, FPB_HOST, 0x0108, {0, 4, 0, 255, 1, 0, 0, 0}, {0}}},
+    {ACS_CONTROL(3), 0, {"redirect", FPB_ADDRESS, 3, 0xE0500000, {0, 1, 2, 255, 2, 0, 0, 0}, {3, 2}}},
+    {ACS_CONTROL(3), (uint8_t)~REDIRECT, {"redirect", FPB_ADDRESS, 3, 0xE0500000, {0, 1, 2, 255, 2, 0, 0, 0}, {3, 2}}},
+    {ACS_CONTROL(2), 0, {"redirect", FPB_ADDRESS, 3, 0xE0500000, {0, 1, 2, 255, 6, 0, 0, 0}, {3, 1, 0, 0, 1, 2}}},
+    {ACS_CONTROL(1), 0, {"redirect", FPB_ADDRESS, 3, 0xE0500000, {0, 1, 2, 255, 6, 0, 0, 0}, {3, 1, 0, 0, 1, 2}}},
+    {ACS_CONTROL(4), REDIRECT, {"redirect", FPB_ADDRESS, 4, 0xE0500000, {0, 1, 2, 255, 6, 0, 0, 0}, {4, 1, 0, 0, 1, 2}}},
+    {ACS_CONTROL(4), REDIRECT, {"redirect", FPB_ID, 4, 0x0300, {0, 1, 2, 255, 2, 0, 0, 0}, {4, 2}}},
+    {ACS_CONTROL(4) + 1, REDIRECT, {"redirect", FPB_ADDRESS, 4, 0xE0500000, {0, 1, 2, 255, 2, 0, 0, 0}, {4, 2}}},
+    {COMMAND(3), 0, {"redirect", FPB_ADDRESS, 3, 0xE0600000, {0, 4, 1, 255, 5, 0, 0, 0}, {3, 1, 0, 0, 1}}},
+    {COMMAND(1), 0, {"redirect", FPB_ADDRESS, 3, 0xE0500000, {0, 4, 0, 255, 4, 0, 0, 0}, {3, 1, 0, 0}}},
+    {COMMAND(0), 0, {"redirect", FPB_ADDRESS, 3, 0xE0500000, {0, 3, 255, 255, 3, 0, 0, 0}, {3, 1, 0}}},
+    {ACS_CONTROL(5), REDIRECT, {"redirect-past-two-holders", FPB_ADDRESS, 5, 0xE2000000, {0, 1, 6, 255, 4, 0, 0, 0}, {5, 1, 0, 6}}},
 };
 
 /* New vectors for these ports of shared-granule (ports 2 and 3), last-id (port 1), every-decoder (ports 3, 4 and 5), display-card
  * (port 3, by 16 MiB from 0 on), taken-id (port 1), taken-bus (port 3) and flat-switch (port 4), the last three by units from 0200h
  * on. Of shared-granule, port 2 has entries 1 and 5 set and port 3 entries 5 and 9. */
 #define NO_ROW {0, 0}
+#define PORT_2(...) {48, 1, 48, {{2, 16}, NO_ROW, NO_ROW}, {__VA_ARGS__}}
+#define PORTS_2_4(...) {88, 2, 88, {{2, 24}, {4, 56}, NO_ROW}, {__VA_ARGS__}}
 #define PORT_3(...) {48, 1, 48, {{3, 16}, NO_ROW, NO_ROW}, {__VA_ARGS__}}
 #define PORT_3_APART PORT_3(ENTRY(16, 6), ENTRY(16, 9), 0, 0)
 #define PORT_1(...) {48, 1, 48, {{1, 16}, NO_ROW, NO_ROW}, {__VA_ARGS__}}
@@ -324,6 +408,35 @@ static const struct trial_check trial_checks[] = {
     {{DEVICE_CONTROL_2(3), 0, PORT_4_AND(ENTRY(16, 2))}, {"flat-switch", {0, 0, 255, 255, 0, 0, 0, 0}, 0}},
     {{0, 0, PORT_1(ENTRY(16, 0), 0, 0, 0)}, {"taken-id", {18, 0, 2, 255, 0, 0, 0, 0}, 0x0300}},
     {{RID_CONTROL_1(1), 0, PORT_1(0, 0, 0, 0)}, {"taken-id", {0, 0, 255, 255, 0, 0, 0, 0}, 0}},
+    {{0, 0, PORTS_2_4(ENTRY(24, 9), ENTRY(56, 5), 0, 0)}, {"redirect", {0, 0, 255, 255, 0, 0, 0, 0}, 0}},
+    {{0, 0, PORT_2(ENTRY(16, 9), 0, 0, 0)}, {"redirect", {12, 0, 2, 4, 0, 0, 0, 0}, 0xE0900000}},
+    {{0, 0, PORT_2(ENTRY(16, 16), 0, 0, 0)}, {"redirect", {14, 0, 2, 255, 0, 0, 0, 0}, 0xE1000000}},
+    {{ACS_CONTROL(2) + 2, 1, PORT_2(ENTRY(16, 9), 0, 0, 0)}, {"redirect", {8, 0, 2, 255, 0, 0, 0, 0}, 0}},
+    {{0, 0, PORT_2(ENTRY(16, 1), 0, 0, 0)}, {"redirect-past-two-holders", {14, 0, 3, 255, 0, 0, 0, 0}, 0xE2000000}},
+};
+
+/* Of redirect, port 2 has entries 1 and 5 set and port 4 has entry 9; of redirect-past-two-holders, ports 2 and 3 have 5 and 32. A
+ * port that claims the address by the patch does not redirect, and one that gives it up does. */
+static const struct trial_walk redirected_on_trial[] = {
+    {{0, 0, PORTS_2_4(ENTRY(24, 9), ENTRY(56, 5), 0, 0)},
+     {"redirect", FPB_ADDRESS, 2, 0xE0900000, {0, 4, 2, 255, 0, 0, 0, 0}, UNUSED}},
+    {{0, 0, PORTS_2_4(ENTRY(24, 9), ENTRY(56, 5), 0, 0)},
+     {"redirect", FPB_ADDRESS, 2, 0xE0500000, {0, 1, 4, 255, 6, 0, 0, 0}, {2, 1, 0, 0, 1, 4}}},
+    {{0, 0, PORTS_2_4(ENTRY(24, 9), ENTRY(56, 5), 0, 0)},
+     {"redirect", FPB_ADDRESS, 2, 0xE0100000, {0, 4, 1, 255, 5, 0, 0, 0}, {2, 1, 0, 0, 1}}},
+    {{0, 0, PORTS_2_4(ENTRY(24, 9), ENTRY(56, 5), 0, 0)},
+     {"redirect", FPB_ADDRESS, 4, 0xE0900000, {0, 1, 2, 255, 2, 0, 0, 0}, {4, 2}}},
+    {{ACS_CONTROL(2), 0, PORTS_2_4(ENTRY(24, 9), ENTRY(56, 5), 0, 0)},
+     {"redirect", FPB_ADDRESS, 2, 0xE0500000, {0, 1, 4, 255, 2, 0, 0, 0}, {2, 4}}},
+    {{0, 0, PORT_2(ENTRY(16, 9), 0, 0, 0)}, {"redirect", FPB_ADDRESS, 3, 0xE0900000, {0, 5, 2, 4, 5, 0, 0, 0}, {3, 1, 0, 0, 1}}},
+    {{0, 0, PORT_2(ENTRY(16, 9), 0, 0, 0)}, {"redirect", FPB_ADDRESS, 2, 0xE0900000, {0, 4, 2, 255, 0, 0, 0, 0}, UNUSED}},
+    {{0, 0, PORT_2(ENTRY(16, 9), 0, 0, 0)}, {"redirect", FPB_ADDRESS, 4, 0xE0500000, {0, 4, 1, 255, 1, 0, 0, 0}, {4}}},
+    {{0, 0, PORT_2(ENTRY(16, 9), 0, 0, 0)}, {"redirect", FPB_ID, 2, 0x0500, {0, 1, 4, 255, 2, 0, 0, 0}, {2, 4}}},
+    {{0, 0, PORT_3(0, 0, 0, 0)},
+     {"redirect-past-two-holders", FPB_ADDRESS, 4, 0xE0500000, {0, 1, 2, 255, 6, 0, 0, 0}, {4, 1, 0, 0, 1, 2}}},
+    {{0, 0, PORT_3(0, 0, 0, 0)},
+     {"redirect-past-two-holders", FPB_ADDRESS, 5, 0xE0500000, {0, 1, 2, 255, 2, 0, 0, 0}, {5, 2}}},
+    {{0, 0, PORT_2(0, 0, 0, 0)}, {"redirect", FPB_ADDRESS, 1, 0xE0500000, {16, 0, 255, 255, 0, 0, 0, 0}, UNUSED}},
 };
 
 static const struct trial_walk trial_walks[] = {
@@ -440,6 +553,13 @@ static uint32_t u32_at(const uint8_t *at)
     return at[0] | (uint32_t)at[1] << 8 | (uint32_t)at[2] << 16 | (uint32_t)at[3] << 24;
 }
 
+/* The byte of the picture that a number of a case stands for: counted from the first, or IN_RECORD. */
+static uint8_t *byte_of(size_t at)
+{
+    uint32_t in_records = (uint32_t)at - RECORDS;
+    return picture + (at < RECORDS ? at : record_at(in_records / ROOM_OF_RECORD) + in_records % ROOM_OF_RECORD);
+}
+
 /* Lends bytes of the room for a patch, from `shift` on. */
 static void lend_patch(size_t shift, size_t length)
 {
@@ -510,7 +630,7 @@ static int has_target(uint8_t number)
 /* The ports above a port, from the root port down; how many. */
 static size_t ports_above(size_t port, uint8_t *above)
 {
-    uint8_t parent = picture[16 + 56 * port + 1];
+    uint8_t parent = picture[record_at((uint32_t)port) + 1];
     size_t count = 0;
     if (parent != FPB_NO_PORT) {
         count = ports_above(parent, above);
@@ -526,7 +646,7 @@ static void try_found(const char *sample, int on_trial)
     uint8_t answer[FPB_ANSWER_LENGTH], wanted[FPB_ANSWER_LENGTH];
     size_t port;
     for (port = 0; port < picture[2]; port++) {
-        const uint8_t *own = picture + OWN_ID(port);
+        const uint8_t *own = byte_of(OWN_ID(port));
         memset(wanted, FPB_NO_PORT, sizeof wanted);
         memset(wanted, 0, 8);
         wanted[FPB_AT_END] = FPB_END_FUNCTION;
@@ -625,7 +745,7 @@ static void load_changed(const char *folder, const char *sample, size_t at, uint
 {
     load(folder, sample);
     if (at != 0) {
-        picture[at] = byte;
+        *byte_of(at) = byte;
     }
     keep_picture();
 }
@@ -642,11 +762,11 @@ static void try_trial_checks(const char *folder)
     }
 }
 
-static void try_trial_walks(const char *folder)
+static void try_trial_walks(const char *folder, const struct trial_walk *cases, size_t count)
 {
     size_t i;
-    for (i = 0; i < SHIFTS * COUNT(trial_walks); i++) {
-        const struct trial_walk *c = &trial_walks[i / SHIFTS];
+    for (i = 0; i < SHIFTS * count; i++) {
+        const struct trial_walk *c = &cases[i / SHIFTS];
         load_changed(folder, c->walk.sample, c->trial.at, c->trial.byte);
         lay_patch(&c->trial.patch, i % SHIFTS, KEPT);
         try_walk(&c->walk, 1);
@@ -667,6 +787,25 @@ static void try_refused_patches(const char *folder)
         lay_patch(&c->patch, i % SHIFTS, i % 2 == 0 ? KEPT : 0);
         try_check(&check, 1);
         try_walk(&walk, 1);
+    }
+}
+
+/* Samples as they are. */
+static void try_checks(const char *folder)
+{
+    size_t i;
+    for (i = 0; i < COUNT(checks); i++) {
+        load(folder, checks[i].sample);
+        try_check_alone(&checks[i]);
+    }
+}
+
+static void try_walks(const char *folder, const struct walk_case *cases, size_t count)
+{
+    size_t i;
+    for (i = 0; i < count; i++) {
+        load(folder, cases[i].sample);
+        try_walk_alone(&cases[i]);
     }
 }
 
@@ -749,8 +888,8 @@ static void put_in(size_t bytes)
 {
     size_t row, count = u32_at(patch);
     for (row = 0; row < count; row++) {
-        size_t port = u32_at(patch + 8 + 8 * row);
-        memcpy(picture + u32_at(picture + 16 + 56 * port + 52), patch + u32_at(patch + 12 + 8 * row), bytes);
+        const uint8_t *record = picture + record_at(u32_at(patch + 8 + 8 * row));
+        memcpy(picture + u32_at(record + 52), patch + u32_at(patch + 12 + 8 * row), bytes);
     }
 }
 
@@ -789,16 +928,16 @@ static void try_sets(const char *folder)
 }
 
 /* A sound picture of root ports with `bytes` of vectors each, no entry set, and RID decoding enabled. */
-static void build_roots(uint32_t count, uint32_t capabilities, uint32_t rid_control_1, uint32_t bytes)
+static void build_roots(uint32_t edition, uint32_t count, uint32_t capabilities, uint32_t rid_control_1, uint32_t bytes)
 {
-    uint32_t vectors_at = 16 + 56 * count, port;
-    lay_header(count, bytes * count);
+    uint32_t port;
+    lay_header(edition, count, bytes * count);
     for (port = 0; port < count; port++) {
-        uint8_t *record = picture + 16 + 56 * port;
+        uint8_t *record = picture + record_at(port);
         put_u32(record, 255 << 8 | 8 * port << 16);
         put_u32(record + 28, capabilities);
         put_u32(record + 32, rid_control_1);
-        put_u32(record + 52, vectors_at + bytes * port);
+        put_u32(record + 52, record_at(count) + bytes * port);
     }
     keep_picture();
 }
@@ -820,15 +959,15 @@ static void try_pair(uint64_t all, uint32_t bytes, uint32_t entry, uint32_t port
 }
 
 /* Some pairs of 64 ports with the smallest vectors, and of 25 with all of the largest: a patch of 64,208 bytes. */
-static void try_pairs(void)
+static void try_pairs(uint32_t edition)
 {
     uint32_t port;
-    build_roots(64, 1, 1 | 5 << 4, 32);
+    build_roots(edition, 64, 1, 1 | 5 << 4, 32);
     for (port = 0; port < 63; port++) {
         try_pair(0xFFFFFFFFFFFFFFFF, 32, 7, port, port + 1);
         try_pair(0xFFFFFFFFFFFFFFFF, 32, 7, port, 63);
     }
-    build_roots(25, 7 | 5 << 8 | 4 << 16 | 5 << 24, 1, 2560);
+    build_roots(edition, 25, 7 | 5 << 8 | 4 << 16 | 5 << 24, 1, 2560);
     for (port = 0; port < 24; port++) {
         try_pair(0x1FFFFFF, 2560, 0x0700 / 8, port, port + 1);
     }
@@ -913,28 +1052,24 @@ static void try_version(void)
 
 int main(int argc, char **argv)
 {
-    size_t i;
     if (argc != 3) {
         fprintf(stderr, "usage: calls SAMPLES TEXTS\n");
         return 2;
     }
-    for (i = 0; i < COUNT(checks); i++) {
-        load(argv[1], checks[i].sample);
-        try_check_alone(&checks[i]);
-    }
-    for (i = 0; i < COUNT(walks); i++) {
-        load(argv[1], walks[i].sample);
-        try_walk_alone(&walks[i]);
-    }
+    try_checks(argv[1]);
+    try_walks(argv[1], walks, COUNT(walks));
+    try_walks(argv[1], redirected, COUNT(redirected));
     try_changed_checks(argv[1], changed_checks, COUNT(changed_checks));
     try_changed_checks(argv[1], changed_ranges, COUNT(changed_ranges));
     try_changed_walks(argv[1]);
     try_taken(argv[1]);
     try_trial_checks(argv[1]);
-    try_trial_walks(argv[1]);
+    try_trial_walks(argv[1], trial_walks, COUNT(trial_walks));
+    try_trial_walks(argv[1], redirected_on_trial, COUNT(redirected_on_trial));
     try_refused_patches(argv[1]);
     try_sets(argv[1]);
-    try_pairs();
+    try_pairs(1);
+    try_pairs(2);
     try_nothing();
     try_nothing_on_trial();
     try_texts(argv[2]);

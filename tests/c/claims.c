@@ -1,6 +1,6 @@
 /* claims SAMPLES: asks the archive which decoders of a port claim a target, and what a port makes of a configuration request, on
- * pictures that are built here and on those of a folder; looks at every byte that a call could write. Last line: N passed, M
- * failed. */
+ * pictures that are built here, in either edition, and on those of a folder; looks at every byte that a call could write. Last
+ * line: N passed, M failed. */
 #include "common.h"
 
 #define ROOT 0
@@ -320,13 +320,17 @@ static const uint64_t no_ids[] = {0x10000, 0x10300, 0x1FFFF, 0xFFFFFFFF, 0x10000
 
 static const struct refused unreadable[] = {
     {"short", FPB_LENGTH},
-    {"edition-2", FPB_EDITION},
+    {"edition-2-short", FPB_LENGTH},
+    {"edition-3", FPB_EDITION},
     {"no-port", FPB_COUNT},
     {"total-wrong", FPB_TOTAL},
     {"records-elsewhere", FPB_OFFSET},
+    {"edition-2-offsets-of-1", FPB_OFFSET},
     {"later-child", FPB_TREE},
     {"chain-of-17", FPB_CHAIN},
     {"reserved-size", FPB_SETTINGS},
+    {"acs-not-zero", FPB_SETTINGS},
+    {"settings-all-wrong", FPB_SETTINGS},
     {"start-misaligned", FPB_START},
     {"vectors-past-the-end", FPB_VECTORS},
 };
@@ -404,14 +408,18 @@ static void set_entries(uint8_t *vectors, const struct port *p)
     }
 }
 
-static void build(const struct port *ports, uint32_t count)
+/* ACS Control, which edition 2 has and which no claim and no conversion looks at, has all its bits set. */
+static void build(uint32_t edition, const struct port *ports, uint32_t count)
 {
     uint32_t i;
-    lay_header(count, VECTORS * count);
+    lay_header(edition, count, VECTORS * count);
     for (i = 0; i < count; i++) {
-        uint32_t vectors_at = 16 + 56 * count + VECTORS * i;
-        lay_record(picture + 16 + 56 * i, &ports[i], vectors_at);
+        uint32_t vectors_at = record_at(count) + VECTORS * i;
+        lay_record(picture + record_at(i), &ports[i], vectors_at);
         set_entries(picture + vectors_at, &ports[i]);
+        if (edition == 2) {
+            put_u32(picture + record_at(i) + 56, 0xFFFF);
+        }
     }
     keep_picture();
 }
@@ -447,7 +455,7 @@ static void try_no_ids(void)
 }
 
 /* Root ports, as many as may be: port p has bus p, but port 0 none. */
-static void build_64_ports(void)
+static void build_64_ports(uint32_t edition)
 {
     struct port ports[64];
     uint32_t p;
@@ -455,15 +463,15 @@ static void build_64_ports(void)
         ports[p] = converters[6];
         ports[p].buses[0] = ports[p].buses[1] = (uint8_t)p;
     }
-    build(ports, 64);
+    build(edition, ports, 64);
 }
 
 /* Each claims its own bus and not that of another, and what is beyond them is no port. */
-static void try_64_ports(void)
+static void try_64_ports(uint32_t edition)
 {
     struct question q = {0, FPB_ID, 0};
     uint32_t p;
-    build_64_ports();
+    build_64_ports(edition);
     for (p = 0; p < 64; p++) {
         q.port = p;
         q.target = p << 8;
@@ -512,6 +520,35 @@ static void try_unsound(const char *folder)
     try_all(CLAIM, displays, COUNT(displays));
 }
 
+/* A sample of edition 2: what its ports claim, and make of requests for bus 4, whose port 3 has ARI. */
+static void try_edition_2(const char *folder)
+{
+    static const struct answered claimed[] = {
+        {{0, FPB_ADDRESS, 0xE0500000}, FPB_MEM},
+        {{1, FPB_ADDRESS, 0xE0500000}, FPB_MEM},
+        {{2, FPB_ADDRESS, 0xE0500000}, FPB_LOW},
+        {{2, FPB_ADDRESS, 0xE0600000}, 0},
+        {{3, FPB_ADDRESS, 0xE0500000}, 0},
+        {{3, FPB_ADDRESS, 0xE0600000}, FPB_MEM},
+        {{4, FPB_ADDRESS, 0xE0900000}, FPB_LOW},
+        {{5, FPB_ADDRESS, 0xD0000000}, FPB_MEM},
+        {{5, FPB_ID, 0x0600}, FPB_BUS},
+        {{5, FPB_ID, 0x0010}, 0},
+    };
+    static const struct answered made[] = {
+        {{0, 0, 0x0408}, FPB_TYPE_1},
+        {{1, 0, 0x0408}, FPB_TYPE_1},
+        {{2, 0, 0x0408}, FPB_NOT_CLAIMED},
+        {{2, 0, 0x0308}, FPB_UNSUPPORTED_REQUEST},
+        {{3, 0, 0x0408}, FPB_TYPE_0},
+        {{1, 0, 0x0208}, FPB_TYPE_0},
+    };
+    load(folder, "redirect");
+    try_all(CLAIM, claimed, COUNT(claimed));
+    try_all(CONVERT, made, COUNT(made));
+    refuse_both(6, FPB_ID, 0x0300, FPB_QUESTION);
+}
+
 /* What the port above makes of an ID that the check gives with 18: port 1 takes 0300h, port 0 turns 0108h away. */
 static void try_taken(const char *folder)
 {
@@ -549,20 +586,28 @@ static void try_nothing(void)
     refuse_both(0, FPB_ID, 0, FPB_LENGTH);
 }
 
+/* The pictures that are built here; the answers are those of the registers, which both editions have. */
+static void try_built(uint32_t edition)
+{
+    build(edition, claimers, COUNT(claimers));
+    try_all(CLAIM, claims, COUNT(claims));
+    build(edition, converters, COUNT(converters));
+    try_all(CONVERT, conversions, COUNT(conversions));
+    try_no_ports();
+    try_no_kinds();
+    try_no_ids();
+    try_64_ports(edition);
+}
+
 int main(int argc, char **argv)
 {
     if (argc != 2) {
         fprintf(stderr, "usage: claims SAMPLES\n");
         return 2;
     }
-    build(claimers, COUNT(claimers));
-    try_all(CLAIM, claims, COUNT(claims));
-    build(converters, COUNT(converters));
-    try_all(CONVERT, conversions, COUNT(conversions));
-    try_no_ports();
-    try_no_kinds();
-    try_no_ids();
-    try_64_ports();
+    try_built(1);
+    try_built(2);
+    try_edition_2(argv[1]);
     try_unreadable(argv[1]);
     try_unsound(argv[1]);
     try_taken(argv[1]);

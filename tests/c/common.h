@@ -65,15 +65,22 @@ static void put_u32(uint8_t *at, uint32_t number)
     }
 }
 
+/* Where the record of a port begins, by the edition of the picture that is lent. */
+static uint32_t record_at(uint32_t port)
+{
+    uint32_t edition = picture[0] | (uint32_t)picture[1] << 8;
+    return 16 + (edition == 2 ? 60 : 56) * port;
+}
+
 /* Begins a picture anew: the header for so many ports and bytes of vectors, and zeros behind it. */
-static void lay_header(uint32_t count, uint32_t vectors)
+static void lay_header(uint32_t edition, uint32_t count, uint32_t vectors)
 {
     memset(picture, 0, sizeof picture);
-    picture_len = 16 + 56 * count + vectors;
-    put_u32(picture, 1 | count << 16);
+    put_u32(picture, edition | count << 16);
+    picture_len = record_at(count) + vectors;
     put_u32(picture + 4, (uint32_t)picture_len);
     put_u32(picture + 8, 16);
-    put_u32(picture + 12, 16 + 56 * count);
+    put_u32(picture + 12, record_at(count));
 }
 
 #endif
