@@ -48,10 +48,11 @@ static void print_number(uint32_t number, const uint8_t *answer)
     printf("\n");
 }
 
-/* The own ID of a port, which is in its record. */
+/* The own ID of a port, which is in its record: of 56 bytes, or of 60 if the picture's edition is 2. */
 static uint64_t own_id(uint32_t port)
 {
-    const uint8_t *at = picture + 16 + 56 * (size_t)port + 2;
+    size_t record_length = picture[0] + 256u * picture[1] == 2 ? 60 : 56;
+    const uint8_t *at = picture + 16 + record_length * port + 2;
     return at[0] + 256u * at[1];
 }
 

@@ -7,6 +7,8 @@
 #   TARGET  hexadecimal, as 0300, 0x0300 or 0300h; an ID also as bus, device and Function, 03:00.0
 #
 # Ends: `end device port 5', `end function port 3' (the port itself), `end host', `end unsupported port 4', `end doubled ports 2 9'.
+# Redirect: a packet to an address, sent below a port that has P2P Request Redirect set (in edition 2) and does not claim the address,
+# first crosses every port up to the root: `path 3 1 0 0 1 2'.
 # Without FILE, or with `-', the picture is read from standard input.
 # Status: 0 an end reached; 1 refused, Unsupported Request or doubled; 2 bad usage, or no answer: standard error says why.
 

@@ -1,7 +1,8 @@
 /* fiswalend.h: the judge of FPB registers, for C and C++: C99 or later, C++11 or later.
  *
  * A picture is a chassis of 1 to 64 PCIe ports as bytes: a header, a record for each port, their vectors; docs/PICTURE.md of the
- * source has its format and the table of numbers. fpb_check says whether it is sound, fpb_walk says where one packet goes in it.
+ * source has its format and the table of numbers. In a picture of edition 1 a record has 56 bytes, in one of edition 2 it has 60,
+ * with the port's ACS Control register. fpb_check says whether a picture is sound, fpb_walk says where one packet goes in it.
  * In a sound picture a configuration request from the host for the own ID of any port ends at that port's Function.
  * fpb_trial_check and fpb_trial_walk say the same of a picture with the vectors of a patch put in, for some of its ports.
  * fpb_claim says which decoders of one port claim a target, fpb_convert what the port makes of a configuration request.
@@ -31,9 +32,9 @@ extern "C" {
 
 /* The version of this header and of the archive that it comes with, as numbers and as text. */
 #define FPB_VERSION_MAJOR 1
-#define FPB_VERSION_MINOR 5
+#define FPB_VERSION_MINOR 6
 #define FPB_VERSION_PATCH 0
-#define FPB_VERSION "1.5.0"
+#define FPB_VERSION "1.6.0"
 
 /* The bytes of an answer, and the places in its path. */
 #define FPB_ANSWER_LENGTH 40
@@ -47,14 +48,15 @@ extern "C" {
  * first that applies is given, and of several ports the lowest. */
 enum fpb_number {
     FPB_CLEAR = 0,          /* the check found nothing; the walk came to an end; the claim or the conversion is answered */
-    FPB_LENGTH = 1,         /* the picture has under 72 or over 65,536 bytes */
-    FPB_EDITION = 2,        /* its edition is not 1 */
+    FPB_LENGTH = 1,         /* the picture has over 65,536 bytes, or under 76 if its edition is 2, and else under 72 */
+    FPB_EDITION = 2,        /* its edition is neither 1 nor 2 */
     FPB_COUNT = 3,          /* it has no ports, or over 64 */
     FPB_TOTAL = 4,          /* its total length is not the length given */
     FPB_OFFSET = 5,         /* records or vectors do not start where they must, or records run past the end */
     FPB_TREE = 6,           /* kind, parent or child rule broken; names the port */
     FPB_CHAIN = 7,          /* over 16 ports on a chain; names the port */
-    FPB_SETTINGS = 8,       /* vector settings, Memory or Prefetchable bits that may not be; names the port */
+    FPB_SETTINGS = 8,       /* vector settings, Memory or Prefetchable bits that may not be, or, in edition 2, a byte behind ACS
+                             * Control that is not zero; names the port */
     FPB_START = 9,          /* an enabled vector's start breaks its rule; names the port */
     FPB_VECTORS = 10,       /* a port's vectors start elsewhere (names the port), or do not end at the total (names 255) */
     FPB_SHARED_ID = 11,     /* check: an ID held by two ports at one place, or claimed by its owner; names both, and the ID */
@@ -130,7 +132,13 @@ enum fpb_offset {
 uint32_t fpb_check(const uint8_t *picture, size_t picture_len, uint8_t *answer, size_t answer_len);
 
 /* Where a packet goes: of a kind (enum fpb_kind), from the host (start FPB_HOST) or from the device below port `start`, to a
- * target. Returns 0 with the end and the path, or a number, 1 to 10, 16 or 17. The buffer as for fpb_check. */
+ * target. Returns 0 with the end and the path, or a number, 1 to 10, 16 or 17. The buffer as for fpb_check.
+ *
+ * Redirect: if port `start` has bit 2 of ACS Control set, P2P Request Redirect, and does not claim the address that a packet of
+ * kind FPB_ADDRESS goes to, the packet crosses every port from `start` up to its root port, whatever the ports on the way hold, and
+ * goes on from there as from the host. It may come down across the same ports, which then stand twice in the path. Packets of the
+ * other kinds are not redirected, nor are those from the host; no other bit of ACS Control counts, and at no other port. In a
+ * picture of edition 1 nothing is redirected. */
 uint32_t fpb_walk(const uint8_t *picture, size_t picture_len, uint8_t *answer, size_t answer_len, uint32_t kind, uint32_t start,
                   uint64_t target);
 
@@ -160,8 +168,9 @@ uint32_t fpb_trial_walk(const uint8_t *picture, size_t picture_len, const uint8_
  * kept: 1 to 10, then 16 for a port that the picture does not have, a kind over 1, or an ID over FFFFh.
  *
  * A port's own ID is no claim and no bit: a port that holds an ID, as those do that the check names with 11 and 13, holds it as its
- * own, by the decoders, or both; the port that 18 names claims the ID, and it is not its own. Its own ID stands in its record, at
- * byte 16 + 56 * port + 2 of the picture, little-endian.
+ * own, by the decoders, or both; the port that 18 names claims the ID, and it is not its own. Its own ID stands in its record,
+ * little-endian, at byte 16 + 56 * port + 2 of a picture of edition 1 and at byte 16 + 60 * port + 2 of one of edition 2; the
+ * edition is the picture's first two bytes.
  *
  * This call and the next speak of the picture alone, also of a port that a trial call has named: the vectors of a patch are not
  * looked at. The picture must read, and need not be sound. */
@@ -193,14 +202,14 @@ static inline const char *fpb_number_text(uint32_t number)
 {
     static const char *const texts[] = {
         "nothing was found wrong",
-        "the picture is shorter than 72 bytes or longer than 65,536",
-        "the picture's edition is not 1",
+        "the picture is shorter than 72 bytes (76 in edition 2) or longer than 65,536",
+        "the picture's edition is neither 1 nor 2",
         "the picture has no port, or more than 64",
         "the total length in the header is not the picture's length",
         "the records or the vectors do not begin where they must, or the records go past the picture's end",
         "a port breaks a rule of the tree, by its kind, its parent or as a later child",
         "a port has more than 15 ports above it in its chain",
-        "a port has a vector enabled that it does not support, a size or granularity that may not be, or wrong low bits in a memory register",
+        "a port has a vector enabled that it does not support, a size or granularity that may not be, wrong low bits in a memory register, or bytes after ACS Control that are not zero",
         "an enabled vector starts where it may not",
         "a port's vectors do not begin where they must, or the last ones do not end where the picture ends",
         "an ID has two holders at one place, or a port claims its own ID",
