@@ -51,20 +51,15 @@ pub fn tree_broken(s: &[u8], p: PortNo) -> bool {
     !(parent.0 < p.0) | (!(kind == 2) | downstream_broken(s, p))
 }
 
-// The port above p, and 255 once the root is reached.
-fn step_up(s: &[u8], p: PortNo) -> PortNo {
-    if p.0 == 255 {
-        return p;
-    }
-    parent_at(s, p)
-}
-
 // Number 7.
 pub fn chain_too_long(s: &[u8], p: PortNo) -> bool {
     let mut q = p;
     let mut k: u8 = 0;
     while k < 16 {
-        q = step_up(s, q);
+        if q.0 == 255 {
+            return false;
+        }
+        q = parent_at(s, q);
         k += 1;
     }
     !(q.0 == 255)

@@ -2,7 +2,6 @@
 use crate::ids::PortNo;
 use crate::picture::Culprit;
 use crate::registers::edition_of;
-use crate::registers::port_at;
 use crate::registers::record_at;
 use crate::registers::sizes_of;
 use crate::registers::vector_bytes;
@@ -20,12 +19,10 @@ pub fn misplaced(s: &[u8], n: u8) -> Culprit {
     let mut offset: u64 = record_at(edition_of(s), n as usize) as u64;
     let mut p: u8 = 0;
     while p < n {
-        let port = port_at(s, PortNo(p));
-        if port.vectors_at as u64 != offset {
+        if vectors_start(s, PortNo(p)) as u64 != offset {
             return Culprit::Port(PortNo(p));
         }
-        let f = port.fpb;
-        offset += all_bytes(f);
+        offset += all_bytes(sizes_of(s, PortNo(p)));
         p += 1;
     }
     if offset != s.len() as u64 {
