@@ -101,7 +101,7 @@ pub fn with_ari_at(s: &[u8], p: PortNo) -> bool {
     crate::registers::with_ari(port_at(s, p))
 }
 
-// Whether port p redirects the requests of its device.
+// Whether port p has P2P Request Redirect set.
 pub fn with_redirect_at(s: &[u8], p: PortNo) -> bool {
     crate::registers::with_redirect(port_at(s, p))
 }

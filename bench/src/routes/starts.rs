@@ -10,13 +10,15 @@ fn is_redirected(s: &[u8], packet: Packet, start: PortNo) -> bool {
     let Packet::Plain(t) = packet else {
         return false;
     };
-    let Target::Addr(_) = t else {
-        return false;
-    };
-    if crate::claims::with_redirect_at(s, start) {
-        return !crate::claims::claims(s, start, t);
+    match t {
+        Target::Id(_) => false,
+        Target::Addr(_) => {
+            if crate::claims::with_redirect_at(s, start) {
+                return !crate::claims::claims(s, start, t);
+            }
+            false
+        }
     }
-    false
 }
 
 // Where a packet is that starts there; the root is 255.

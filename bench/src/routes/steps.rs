@@ -115,7 +115,7 @@ fn from_below(s: &[u8], n: u8, packet: Packet, q: PortNo) -> Step {
     }
 }
 
-// Redirected: the port is crossed upward, whatever it and its siblings claim.
+// Redirected: the port is crossed upward, whatever it claims and whatever the ports below it hold.
 fn towards_root(s: &[u8], q: PortNo) -> Step {
     Step::Cross(q, come_to(true, crate::trees::parent_at(s, q)))
 }

@@ -1,5 +1,5 @@
 -- A chassis as the walk and the check see it: a tree of ports, what each claims, what each makes of a configuration request, and
--- which redirect what their device sends.
+-- which have P2P Request Redirect set.
 -- It is made from a picture by one definition; nothing that speaks of a chassis speaks of bytes.
 use Prim.Native.Nat.{ℕ, zero, suc, _^_}
 use mathlib.Core.Bool.{Bool, true, false, _&&_, _||_}

@@ -1,4 +1,4 @@
--- 01, "The walk": where a packet goes. `next` is the rules, one step at a time; `Walk` is what they give when repeated.
+-- 01, "The walk", and 02, Item 8: where a packet goes. `next` is the rules, one step at a time; `Walk` is what they give when repeated.
 mod Words
 use Words.*
 
@@ -44,8 +44,7 @@ atPlace c packet place none = byHolders (lowestAt c place (holds c (targetOf pac
 unfoldable pub deviceOr : Chassis → PortNo → ℕ → Step
 deviceOr c q function = cond (isDevicePort (c .tree) (q .0)) (Stop (Device q function)) (Stop (Unsupported q))
 
--- where a packet is that started at a place, or crossed a port upward to it: "A packet starts at the root (start 255) or below a
--- device port."
+-- where a packet is that started at a place, or crossed a port upward to it, redirected or not
 unfoldable pub comeTo : Bool → ℕ → Whereabouts
 comeTo redirected place = cond (eqb place root) Root (cond redirected (Redirected (portNo place)) (From (portNo place)))
 
@@ -56,6 +55,7 @@ isRedirected c (Plain (Addr a)) start = c .redirect start && not (c .claims star
 isRedirected c (Plain (Id rid)) start = false
 isRedirected c (Config rid) start = false
 
+-- "A packet starts at the root (start 255) or below a device port."
 abbrev pub startsAt : Chassis → Packet → ℕ → Whereabouts
 startsAt c packet start = comeTo (isRedirected c packet start) start
 

@@ -2,6 +2,7 @@ pub mod Numbers
 pub mod Demands
 pub mod Trials
 pub mod EveryPort
+pub mod Direct
 pub mod Tests
 pub mod Zeros
 pub mod FourPorts

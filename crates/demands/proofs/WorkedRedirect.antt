@@ -63,7 +63,7 @@ redirect-walks =
       other-bits = walks 0xFFFB 1 3 0xE0000000 (3 ∷ 2 ∷ []) (Device (portNo 2) 0) refl (goes refl (goes refl (ends refl)));
       own-device = walks 4 1 2 0xE0000000 [] (Unsupported (portNo 2)) refl (ends refl);
       id-across = walks 4 0 3 0x0300 (3 ∷ 2 ∷ []) (Device (portNo 2) 0) refl (goes refl (goes refl (ends refl)));
-      configures = walks 4 2 3 0x0300 [] (Unsupported (portNo 3)) refl (ends refl);
+      config-refused = walks 4 2 3 0x0300 [] (Unsupported (portNo 3)) refl (ends refl);
       from-host = walks 4 1 255 0xE0000000 (0 ∷ 1 ∷ 2 ∷ []) (Device (portNo 2) 0) refl (goes refl (goes refl (goes refl (ends refl))));
     }
 

@@ -94,7 +94,7 @@ pub record Trial2 (s patch : List ℕ) : Type 0 where
 
 -- Demand 3: "For any picture that passes the check and any ID or address: from the host and from every device port it comes to the same
 -- end, in at most 32 crossings, and no place on the way has two holders" (but a device port that itself claims the target refuses
--- its own device)
+-- its own device). 02, Item 8: "Demand 3 holds with the new paths, 32 crossings still."
 abbrev pub PassesFor : CheckAnswer → Chassis → Type 0
 PassesFor a c = checkNumber a ≡ 0 → (t : Target) → InRange t → OneEnd c t
 

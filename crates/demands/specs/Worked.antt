@@ -63,7 +63,7 @@ worked = switchWith 4
 abbrev pub doubled : List ℕ
 doubled = switchWith 3
 
--- the worked chassis in edition 2: ACS Control of 4, P2P Request Redirect alone, at port 2, and this one at port 3
+-- the worked chassis in edition 2: ACS Control of 4, P2P Request Redirect alone, at port 2, and `acs` at port 3
 unfoldable pub redirecting : ℕ → List ℕ
 redirecting acs =
     headerIn 2 60 4
@@ -182,5 +182,5 @@ pub record RedirectWalks : Type 0 where
   pub own-device : WalkGives (redirecting 4) 1 2 0xE0000000 (cameTo (Unsupported (portNo 2)) [])
   -- an ID and a configuration request are not redirected, nor is what comes from the host
   pub id-across : WalkGives (redirecting 4) 0 3 0x0300 (cameTo (Device (portNo 2) 0) (3 ∷ 2 ∷ []))
-  pub configures : WalkGives (redirecting 4) 2 3 0x0300 (cameTo (Unsupported (portNo 3)) [])
+  pub config-refused : WalkGives (redirecting 4) 2 3 0x0300 (cameTo (Unsupported (portNo 3)) [])
   pub from-host : WalkGives (redirecting 4) 1 255 0xE0000000 (cameTo (Device (portNo 2) 0) (0 ∷ 1 ∷ 2 ∷ []))

@@ -1,4 +1,4 @@
-// Which of a port's registers break numbers 8 and 9: the rule itself is asked of the port with all others blank.
+// Which of a port's registers break numbers 8 and 9: the rule itself is asked of the port with all others blank, and what must be zero is looked at.
 use crate::settings::say_granule;
 use crate::settings::say_start;
 use crate::settings::say_vector;

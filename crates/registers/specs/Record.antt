@@ -43,7 +43,7 @@ editionOf s = u16At s 0
 abbrev pub recordBytes : ℕ → ℕ
 recordBytes edition = cond (eqb edition 2) 60 56
 
--- where the record of port p starts in a picture of an edition, and in the picture s
+-- where the record of port p starts in a picture of an edition, or where all records end if p is the count; and in the picture s
 unfoldable pub recordAt : ℕ → ℕ → ℕ
 recordAt edition p = 16 + recordBytes edition * p
 

@@ -1,4 +1,4 @@
--- 01, "Numbers given back": numbers 8 and 9, of one port's registers.
+-- 01, "Numbers given back", and 02, Item 8: numbers 8 and 9, and what two bits say, of one port's registers.
 use Prim.Native.Nat.{_+_, _%_, _^_}
 use mathlib.Core.Bool.{Bool, not, _&&_, _||_}
 use lib.Dec.{eqb, leb, ltb}

@@ -1,7 +1,6 @@
 -- A walk under way: what the loop keeps, what each crossing needs and leaves, and what it has come to at the end.
 -- Assumes nothing.
-use Prim.Native.Nat.{ℕ, _<_}
-use mathlib.Core.Bool.{Bool}
+use Prim.Native.Nat.{_<_}
 use mathlib.Core.List.{List, [], _∷_, _++_}
 use mathlib.Core.Path.{_≡_, ap, sym, subst, _∙_}
 use lib.ListN.{length}
@@ -11,10 +10,7 @@ use Rattle.chassis.specs.declared.Packet.{Packet}
 use Rattle.chassis.specs.declared.Step.the-variants.{Stop, Cross}
 use Rattle.chassis.specs.declared.Whereabouts.{Whereabouts}
 use Rattle.chassis.specs.Chassis.{Chassis}
-use Rattle.chassis.specs.declared.Whereabouts.the-variants.{Root}
-use Rattle.chassis.specs.Tree.{root}
-use Rattle.chassis.specs.Walk.{comeTo, next}
-use Rattle.chassis.proofs.Starts.{comeTo-root}
+use Rattle.chassis.specs.Walk.{next}
 use Rattle.chassis.proofs.Steps.{left, Within, crossing-goes}
 use Rattle.chassis.proofs.Tree.{Sane}
 use Rattle.chassis.specs.OneEnd.{Came, starts, crosses}
@@ -23,10 +19,6 @@ use Rattle.paths.specs.declared.Path.{Path}
 use Rattle.paths.specs.Paths.{pathOf, extended}
 use Rattle.paths.proofs.Laws.{extended-is}
 use Rattle.routes.specs.Routes.{Arrives}
-
--- the place 255 is the root
-pub come-to-root : (redirected : Bool) (place : ℕ) → place ≡ root → Root ≡ comeTo redirected place
-come-to-root redirected place e = rw e (sym (comeTo-root redirected))
 
 pub record Underway (c : Chassis) (packet : Packet) (start : Whereabouts) (path : Path) (w : Whereabouts) : Type 0 where
   pub crossed : List PortNo

@@ -15,13 +15,15 @@ fn is_redirected<'a>(s: &'a [u8], patch: &'a [u8], packet: Packet, start: PortNo
     let Packet::Plain(t) = packet else {
         return false;
     };
-    let Target::Addr(_) = t else {
-        return false;
-    };
-    if claims::with_redirect_at(s, start) {
-        return !claims::claims(s, patch, start, t);
+    match t {
+        Target::Id(_) => false,
+        Target::Addr(_) => {
+            if claims::with_redirect_at(s, start) {
+                return !claims::claims(s, patch, start, t);
+            }
+            false
+        }
     }
-    false
 }
 
 // Where a packet is that starts there; the root is 255.

@@ -149,7 +149,7 @@ fn from_below<'a>(s: &'a [u8], patch: &'a [u8], n: u8, packet: Packet, q: PortNo
     }
 }
 
-// Redirected: the port is crossed upward, whatever it and its siblings claim and whatever the patch.
+// Redirected: the port is crossed upward, whatever it claims, whatever the ports below it hold and whatever the patch.
 fn towards_root(s: &[u8], q: PortNo) -> Step
     ensures { λ r. ⌜ ((patch : List ℕ) → r ≡ towardsRoot (chassisOver (now (s .entry)) patch) q) ⌝ }
 {

@@ -1,11 +1,11 @@
-use borrow.Author.Tests.{ne-eqb}
+use borrow.Author.Tests.{eq-eqb, ne-eqb}
 use Rattle.chassis.specs.Walk.{comeTo}
-use Rattle.routes.proofs.Laws.{come-to-root}
 use Rattle.routes.proofs.steps.come_to.Statement.{statement}
 use Rattle.routes.proofs.steps.come_to.Tie as tie
 
 returns : tie.Need-returns
-returns c = come-to-root _ _ (c .if1 .taken)
+unfolding comeTo
+returns c = rw (eq-eqb _ _ (c .if1 .taken))
 
 returns-2 : tie.Need-returns-2
 unfolding comeTo
