@@ -176,18 +176,25 @@ fn acs_bit_cases() -> Vec<Case> {
     values.map(with).collect()
 }
 
-/// The same ports in edition 1, which has no ACS Control: it counts as 0.
+/// Ports in edition 1, which has no ACS Control: it counts as 0, whatever bytes follow the last record. There it
+/// is the first byte of port 2's vector, which has bit 2 set.
 fn edition_1_cases() -> Vec<Case> {
-    vec![case(
-        "item 8, edition 1: no redirect",
-        two_trees(),
-        vec![
-            reports("ports 5/clear"),
-            from_2(0x1100_0000, [1, 3, 255, 0], &[2, 3]),
-            from_2(0x1200_0000, [4, 1, 255, 0], &[2]),
-            from_2(0x3000_0000, [3, 255, 255, 0], &[2, 1, 0]),
-        ],
-    )]
+    let calls = vec![
+        reports("ports 5/clear"),
+        from_2(0x1100_0000, [1, 3, 255, 0], &[2, 3]),
+        from_2(0x1200_0000, [4, 1, 255, 0], &[2]),
+        from_2(0x3000_0000, [3, 255, 255, 0], &[2, 1, 0]),
+    ];
+    let mut before_a_vector = two_trees();
+    before_a_vector[2] =
+        down(1, 0x0200).buses(3, 3).vector(Low, shape(0, 0, 0x100), &[2]).with_memory_space(true);
+    before_a_vector[3] = down(1, 0x0208).buses(4, 4);
+    before_a_vector.truncate(4);
+    let across = vec![reports("ports 4/clear"), walks(1, 3, 0x1020_0000, [1, 2, 255, 0], &[3, 2])];
+    vec![
+        case("item 8, edition 1: no redirect", two_trees(), calls),
+        case("item 8, edition 1: bit 2 behind the last record", before_a_vector, across),
+    ]
 }
 
 /// Bit 2 at every port but the starting one: it does not matter there.
@@ -195,16 +202,34 @@ fn other_ports_cases() -> Vec<Case> {
     let redirect = |port: DraftPort| DraftPort { acs_control: REQUEST_REDIRECT, ..port };
     let mut ports: Vec<DraftPort> = two_trees().into_iter().map(redirect).collect();
     ports[2].acs_control = !REQUEST_REDIRECT;
-    vec![case_2(
-        "item 8, as before: bit 2 elsewhere",
-        ports,
-        vec![
-            from_2(0x1100_0000, [1, 3, 255, 0], &[2, 3]),
-            from_2(0x1200_0000, [4, 1, 255, 0], &[2]),
-            walks(1, 3, 0x1000_0000, [1, 2, 255, 0], &[3, 1, 0, 0, 1, 2]),
-            walks(1, 255, 0x1000_0000, [1, 2, 255, 0], &[0, 1, 2]),
-        ],
-    )]
+    let elsewhere = vec![
+        from_2(0x1100_0000, [1, 3, 255, 0], &[2, 3]),
+        from_2(0x1200_0000, [4, 1, 255, 0], &[2]),
+        walks(1, 3, 0x1000_0000, [1, 2, 255, 0], &[3, 1, 0, 0, 1, 2]),
+        walks(1, 255, 0x1000_0000, [1, 2, 255, 0], &[0, 1, 2]),
+    ];
+    let crossed = vec![
+        reports("ports 6/clear"),
+        walks(1, 4, 0x1000_0000, [1, 5, 255, 0], &[4, 3, 2, 5]),
+        walks(1, 4, 0x3000_0000, [3, 255, 255, 0], &[4, 3, 2, 1, 0]),
+    ];
+    vec![
+        case_2("item 8, as before: bit 2 elsewhere", ports, elsewhere),
+        case_2("item 8, as before: bit 2 at ports crossed upward", switch_in_switch(), crossed),
+    ]
+}
+
+/// A switch below a switch. The ports above the device port 4 redirect and it does not; port 5, beside them, has
+/// MiB 100h to 10Fh.
+fn switch_in_switch() -> Vec<DraftPort> {
+    vec![
+        root(0x0008).buses(1, 6).memory(0x100, 0x1FF).redirecting(),
+        up(0, 0x0100).buses(2, 6).memory(0x100, 0x1FF).redirecting(),
+        down(1, 0x0200).buses(3, 5).redirecting(),
+        up(2, 0x0300).buses(4, 5).redirecting(),
+        down(3, 0x0400).buses(5, 5),
+        down(1, 0x0208).buses(6, 6).memory(0x100, 0x10F),
+    ]
 }
 
 /// What is no start stays none: a port with a child, and an upstream port without one.

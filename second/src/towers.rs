@@ -1,11 +1,12 @@
 //! Pictures for redirect, of edition 2: towers of ports with device ports at every depth, sound as far as IDs go,
 //! that share a few MiB soundly or not. The deepest device port redirects.
 
-use crate::draft::{Draft, DraftPort, Which, DOWNSTREAM, NO_PARENT, ROOT, UPSTREAM};
+use crate::draft::{Draft, DraftPort, Which, DOWNSTREAM, NO_PARENT};
 use crate::editions::is_device_port;
 use crate::picture::Edition;
 use crate::random::Random;
 use crate::sound::{fill, Taste};
+use crate::spoil::long_chain;
 use crate::widen::{set_entry, MIB_OF_A_HIGH_GRANULE};
 
 /// How many ports a tower has in its chain; 16 are the most, and end in an upstream port.
@@ -49,14 +50,7 @@ fn deepest(ports: &[DraftPort], property: impl Fn(usize) -> bool) -> Vec<usize> 
 /// Adds a chain, and beside some of its downstream ports others, mostly beside the deepest.
 fn push_tower(random: &mut Random, ports: &mut Vec<DraftPort>) {
     let (first, height) = (ports.len(), random.pick(&HEIGHTS));
-    for step in 0..height {
-        let parent = (first + step).wrapping_sub(1) as u8;
-        ports.push(match step {
-            0 => DraftPort::silent(ROOT, NO_PARENT, 0),
-            _ if step % 2 == 1 => DraftPort::silent(UPSTREAM, parent, 0),
-            _ => DraftPort::silent(DOWNSTREAM, parent, 0),
-        });
-    }
+    ports.extend(long_chain(height, first).split_off(first));
     for step in (1..height.saturating_sub(1)).step_by(2).rev() {
         let chance = if step + 3 >= height { 90 } else { 35 };
         while ports.len() - first < MOST_PORTS && random.percent(chance) {
