@@ -6,14 +6,17 @@
  * In a sound picture a configuration request from the host for the own ID of any port ends at that port's Function.
  * fpb_trial_check and fpb_trial_walk say the same of a picture with the vectors of a patch put in, for some of its ports.
  * fpb_claim says which decoders of one port claim a target, fpb_convert what the port makes of a configuration request.
- * What they return and write is proved, for every picture, every patch, every buffer and every number.
+ * fpb_history_add, fpb_history_version and fpb_history_wind_back keep numbered versions of a picture as settings are changed.
+ * What they return and write is proved, for every picture, every patch, every history, every buffer and every number.
  *
  * What the caller must see to, since no proof reaches this side of the call:
- *   - a pointer is valid for the length that comes with it: to read for a picture or a patch, to read and write for an answer.
- *     At length 0 any pointer will do, NULL too;
- *   - the pointer to a uint32_t that a call writes, `decoders` or `decided`, is valid to read and write its 4 bytes, and aligned
- *     for it; it is never NULL;
- *   - an answer, or such a uint32_t, overlaps neither picture nor patch, and nothing else changes any of them during a call.
+ *   - a pointer is valid for the length that comes with it: to read for a picture, a patch or a run of changes, to read and write
+ *     for an answer, for the buffer of a version and, in fpb_history_add, for the room; a length of changes counts changes, and
+ *     a pointer to them is aligned for struct fpb_change. At length 0 any pointer will do, NULL too;
+ *   - the pointer to a uint32_t that a call writes, `decoders`, `decided` or `now_kept`, is valid to read and write its 4 bytes,
+ *     and aligned for it; it is never NULL;
+ *   - what a call writes, an answer, a buffer, a room or such a uint32_t, overlaps nothing else that is lent to it, and nobody else
+ *     changes any of it during a call.
  *
  * The calls keep no state, so any number of threads may call at once. They do not allocate, block, print or stop the program,
  * and use under 4 KiB of stack. They fail in no way but by the numbers below.
@@ -32,9 +35,9 @@ extern "C" {
 
 /* The version of this header and of the archive that it comes with, as numbers and as text. */
 #define FPB_VERSION_MAJOR 1
-#define FPB_VERSION_MINOR 6
+#define FPB_VERSION_MINOR 7
 #define FPB_VERSION_PATCH 0
-#define FPB_VERSION "1.6.0"
+#define FPB_VERSION "1.7.0"
 
 /* The bytes of an answer, and the places in its path. */
 #define FPB_ANSWER_LENGTH 40
@@ -44,10 +47,11 @@ extern "C" {
 #define FPB_NO_PORT 255
 #define FPB_HOST 255
 
-/* The number that a call returns. 17 is looked for first, then 1 to 10, then 30 to 32, then 16, or 11 to 15 and after them 18; the
- * first that applies is given, and of several ports the lowest. */
+/* The number that a call returns. 17 is looked for first, then 1 to 10, then 30 to 32, then 16, or 11 to 15 and after them 18; of a
+ * history 37 to 39 follow on 1 to 10, or 40 and then 23. The first that applies is given, and of several ports the lowest. */
 enum fpb_number {
-    FPB_CLEAR = 0,          /* the check found nothing; the walk came to an end; the claim or the conversion is answered */
+    FPB_CLEAR = 0,          /* the check found nothing; the walk came to an end; the claim or the conversion is answered; the run is
+                             * added, the history wound back, the version written */
     FPB_LENGTH = 1,         /* the picture has over 65,536 bytes, or under 76 if its edition is 2, and else under 72 */
     FPB_EDITION = 2,        /* its edition is neither 1 nor 2 */
     FPB_COUNT = 3,          /* it has no ports, or over 64 */
@@ -69,9 +73,14 @@ enum fpb_number {
     FPB_BUFFER = 17,        /* the answer buffer has under 40 bytes; nothing was looked at, nothing written */
     FPB_TAKEN_ID = 18,      /* check: an ID claimed by a port whose parent makes configuration requests for it Type 0, or answers
                              * them with Unsupported Request, and does not pass them on as Type 1; names the port, and the ID */
+    FPB_BUFFER_SHORT = 23,  /* version: the buffer is shorter than the first picture */
     FPB_PATCH_HEADER = 30,  /* trial: a patch under 8 bytes, or without room for its ports, or whose total is not the length given */
     FPB_PATCH_PORTS = 31,   /* trial: a port of the patch stands twice, out of order, or is not in the picture */
-    FPB_PATCH_VECTORS = 32  /* trial: an offset is not where the vectors before end, or the last do not end at the total */
+    FPB_PATCH_VECTORS = 32, /* trial: an offset is not where the vectors before end, or the last do not end at the total */
+    FPB_NO_SUCH_BYTE = 37,  /* add: a change of the run has a port, a part or a byte that the first picture does not have */
+    FPB_OLD_BYTE_WRONG = 38, /* add: a change's old byte is not what the version just before it holds */
+    FPB_ROOM_FULL = 39,     /* add: the changes kept and the run together are more than the room has records */
+    FPB_NO_SUCH_VERSION = 40 /* wind back, version: k is above the number kept; version: more is kept than the room has records */
 };
 
 /* What is sent, and so what the target of a walk is; of a claim, which takes the first two alone, what its target is. */
@@ -109,6 +118,20 @@ enum fpb_conversion {
     FPB_TYPE_0 = 1,             /* it passes as Type 0: its target is right below the port */
     FPB_TYPE_1 = 2,             /* it passes as Type 1: its target is further down */
     FPB_UNSUPPORTED_REQUEST = 3 /* it does not pass */
+};
+
+/* The part of a port's bytes that a change is in. */
+enum fpb_part {
+    FPB_IN_RECORD = 0, /* the port's record: 56 bytes in a picture of edition 1, 60 in one of edition 2 */
+    FPB_IN_VECTORS = 1 /* all its vectors, one behind the other: RID, MEM Low, MEM High, each that is supported; it may have none */
+};
+
+/* A change of one byte. 16 bytes with these fields at 0, 4, 8, 12 and 13; what is behind them does not count. */
+struct fpb_change {
+    uint32_t port; /* below the first picture's count */
+    uint32_t part; /* enum fpb_part */
+    uint32_t at;   /* counted from the first byte of that part of that port */
+    uint8_t old_byte, new_byte;
 };
 
 /* Where the bytes of an answer are. */
@@ -180,6 +203,35 @@ uint32_t fpb_claim(const uint8_t *picture, size_t picture_len, uint32_t port, ui
  * Else a number, and *decided is kept: 1 to 10, then 16 for a port that the picture does not have, or a target over FFFFh. */
 uint32_t fpb_convert(const uint8_t *picture, size_t picture_len, uint32_t port, uint64_t target, uint32_t *decided);
 
+/* A history of settings: a first picture, a room of changes, and how many of these are kept, all three in the caller's hands. A
+ * history begins with 0 kept, whatever the room holds. Version k is the first picture with the first k changes made, one after the
+ * other; version 0 is the first picture, and the number kept is the last version's. Which byte a change is of follows from the
+ * first picture, whatever a later version says of itself. Only the first picture must read: fpb_check and fpb_walk over the bytes
+ * of a version say what it is, and 1 to 10 where it does not read. The first picture, the run and, for a version, the room are
+ * only read. A refusal writes nothing.
+ *
+ * Adds a run of changes, whole or not at all: returns 0, the run stands in the room behind the `kept` first ones, and *now_kept is
+ * kept + run_len. Else a number, looked for in this order, each over the whole run before the next: 1 to 10 of the first picture;
+ * 37 for a change that names no byte of it, as one in the vectors of a port that has none; 38 for an old byte that is not what the
+ * version just before that change holds, so that a change may build on another of the same run; 39 if kept + run_len is above
+ * room_len. A run of no changes is added too. If kept is above room_len, 37 and 38 speak of all that the room holds, and then it is
+ * 39. Since a version's number has 32 bits, a room counts as 4,294,967,295 records at most. */
+uint32_t fpb_history_add(const uint8_t *first, size_t first_len, struct fpb_change *room, size_t room_len,
+                         const struct fpb_change *run, size_t run_len, uint32_t kept, uint32_t *now_kept);
+
+/* Writes version k to the beginning of `out`, first_len bytes, keeps the rest of it and returns 0. Else a number: 1 to 10 of the
+ * first picture; 40 if k is above kept, or kept above room_len; 23 if out_len is under first_len.
+ *
+ * The history says what happened as long as its room is written by fpb_history_add alone. Any other room is answered all the same:
+ * a record of it that names no byte changes nothing, and of any other the new byte is put in, whatever its old byte says. */
+uint32_t fpb_history_version(const uint8_t *first, size_t first_len, const struct fpb_change *room, size_t room_len, uint8_t *out,
+                             size_t out_len, uint32_t kept, uint32_t k);
+
+/* Winds back to version k: returns 0, and *now_kept is k; 40 if k is above kept, and *now_kept keeps its value. The changes behind
+ * k are dropped, and the next run that is added takes their place in the room: versions above k are then the new ones, and those up
+ * to k what they were. */
+uint32_t fpb_history_wind_back(uint32_t kept, uint32_t k, uint32_t *now_kept);
+
 /* The port at place i of an answer's path, i under the number of crossings, in crossing order. */
 static inline uint8_t fpb_crossed(const uint8_t *answer, size_t i)
 {
@@ -220,10 +272,17 @@ static inline const char *fpb_number_text(uint32_t number)
         "a kind, an ID, a start or a port was asked for that there is not",
         "the answer buffer is shorter than 40 bytes",
         "a port claims an ID that its parent makes Type 0 or refuses and does not pass on as Type 1",
-        NULL, NULL, NULL, NULL, NULL, NULL, NULL, NULL, NULL, NULL, NULL, /* 19 to 29 */
+        NULL, NULL, NULL, NULL, /* 19 to 22 */
+        "the buffer is too short for what is to be written",
+        NULL, NULL, NULL, NULL, NULL, NULL, /* 24 to 29 */
         "the patch is too short for its header or its list of ports, or the total length in its header is not its length",
         "a port stands twice in the patch, out of order, or is not in the picture",
         "a port's new vectors do not begin where they must, or the last ones do not end where the patch ends",
+        NULL, NULL, NULL, NULL, /* 33 to 36 */
+        "a change names a port or a byte that is not in the first picture",
+        "a change's old byte is not what the version before it holds",
+        "the room has no place for the changes of the run",
+        "a version was asked for that is not kept",
     };
     return number < sizeof texts / sizeof texts[0] && texts[number] != NULL ? texts[number] : "not a number of this judge";
 }

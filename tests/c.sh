@@ -1,5 +1,5 @@
 #!/usr/bin/env bash
-# The archive from C: installs it, compiles the header, the test programs and the example, links them with it and runs them. The
+# The archive from C: installs it, compiles the header, the test programs and the examples, links them with it and runs them. The
 # kit's own clang, linker and loader do this on either kind of machine, on Arm under the kit's emulator. A compiler of the host
 # compiles them too, and on x86-64 links and runs them. Last line: N passed, M failed.
 set -u
@@ -47,7 +47,7 @@ prints() {
 # to_full COMMAND..: with nowhere to write to
 to_full() { "$@" >/dev/full; }
 
-# example RUN..: the example on pictures that are sound, unsound and unreadable, and where it cannot read or write
+# example RUN..: examples/chassis.c on pictures that are sound, unsound and unreadable, and where it cannot read or write
 example() {
     local chain='number 7, a port has more than 15 ports above it in its chain; port 16'
     local shared='number 12, an address has two holders at one place; port 2 and port 3, least target e0500000'
@@ -87,7 +87,7 @@ example() {
     prints 2 '|usage: chassis PICTURE [id|address|config host|PORT TARGET]/' "$@" samples/switch.picture id host
 }
 
-# example_words RUN..: the example takes whole words that fit, and nothing else
+# example_words RUN..: it takes whole words that fit, and nothing else
 example_words() {
     local question='number 16, a kind, an ID, a start or a port was asked for that there is not' word
     for word in mail ID '' 'id '; do
@@ -105,6 +105,27 @@ example_words() {
     prints 1 "check: clear/walk: $question/" "$@" samples/switch.picture id host 10000
     prints 0 'check: clear/walk: device port 3, crossing 2 3/' "$@" samples/switch.picture id 002 0x0400
     prints 0 'check: clear/walk: host, crossing nothing/' "$@" samples/switch.picture address host 0xFFFFFFFFffffffff
+}
+
+# example_history RUN..: examples/history.c on the picture that it is for, on others, and where it cannot read or write
+example_history() {
+    local first='port 3 gives up the MiB that port 2 has too' goes='; ID 0400 goes to device port 3/'
+    local clear="nothing was found wrong$goes" two='an ID has two holders at one place, or a port claims its own ID (port 2)'
+    local printed="added, $first: version 1 is the last/added, port 3 gets bus 3, by mistake: version 3 is the last/"
+    local up_to_1="  version 0: an address has two holders at one place (port 2)$goes  version 1: $clear"
+    printed="$printed$up_to_1  version 2: $two$goes  version 3: $two; ID 0400 goes to unsupported request port 1/"
+    printed="${printed}wound back to version 1/"
+    printed="${printed}refused, port 3 gets bus 4 back: number 38, a change's old byte is not what the version before it holds/"
+    printed="${printed}added, the card of port 3 is exchanged: version 3 is the last/$up_to_1"
+    printed="$printed  version 2: a port breaks a rule of the tree, by its kind, its parent or as a later child (port 3)/"
+    prints 0 "$printed  version 3: $clear" "$@" samples/shared-granule.picture
+    prints 1 "refused, $first: number 37, a change names a port or a byte that is not in the first picture/" "$@" samples/switch.picture
+    prints 1 "refused, $first: number 38, a change's old byte is not what the version before it holds/" "$@" samples/waiting-card.picture
+    prints 1 "refused, $first: number 2, the picture's edition is neither 1 nor 2/" "$@" samples/edition-3.picture
+    prints 2 '|history: samples/none cannot be opened/' "$@" samples/none
+    prints 2 '|history: samples cannot be read/' "$@" samples
+    prints 2 '|history: the output cannot be written/' to_full "$@" samples/shared-granule.picture
+    prints 2 '|usage: history PICTURE/' "$@"
 }
 
 # man_numbers: the numbers of the man page in words, one to a line
@@ -126,7 +147,7 @@ clear_samples() {
 
 strict=(-Wall -Wextra -Wpedantic -Werror)
 languages="c:c99 c:c11 c++:c++11 c++:c++17"
-programs="tests/c/calls.c tests/c/claims.c tests/c/editions.c examples/chassis.c"
+programs="tests/c/calls.c tests/c/claims.c tests/c/editions.c tests/c/history.c examples/chassis.c examples/history.c"
 
 # compiled COMMAND..: that the header by itself and the test programs compile as each language
 compiled() {
@@ -137,18 +158,26 @@ compiled() {
     done
 }
 
+# run_programs FOLDER RUN..: runs what is linked below a folder
+run_programs() {
+    local folder=$1 name
+    shift
+    counts "$@" "$folder/tests/c/calls" samples tests/number-texts
+    for name in claims editions history; do counts "$@" "$folder/tests/c/$name" samples; done
+    example "$@" "$folder/examples/chassis"
+    example_words "$@" "$folder/examples/chassis"
+    example_history "$@" "$folder/examples/history"
+}
+
 by_kit() {
-    local words=(-isystem tests/c/headers -I "$work/lib/include") program
+    local words=(-isystem tests/c/headers -I "$work/lib/include") archive=$work/lib/lib/libfiswalend.a program
+    mkdir -p "$work"/kit/{tests/c,examples}
     compiled kit_cc "$work/object.o" "${words[@]}"
     for program in $programs; do
         expect "$program by the kit's clang" kit_cc "$work/object.o" -std=c99 "${strict[@]}" "${words[@]}" "$program"
-        expect "$program by the kit's linker" kit_link "$work/$(basename "$program" .c)" "$work/object.o" "$work/lib/lib/libfiswalend.a"
+        expect "$program by the kit's linker" kit_link "$work/kit/${program%.c}" "$work/object.o" "$archive"
     done
-    counts run_x86 "$work/calls" samples tests/number-texts
-    counts run_x86 "$work/claims" samples
-    counts run_x86 "$work/editions" samples
-    example run_x86 "$work/chassis"
-    example_words run_x86 "$work/chassis"
+    run_programs "$work/kit" run_x86
 }
 
 # finds the installed library as a C project does, and links it
@@ -159,15 +188,11 @@ by_host() {
         read -ra words < <(pkg-config --cflags fiswalend)
         read -ra libs < <(pkg-config --libs fiswalend)
     fi
+    mkdir -p "$work"/host/{tests/c,examples}
     for program in $programs; do
-        expect "$program by the host" cc -std=c99 "${strict[@]}" "${words[@]}" "$program" "${libs[@]}" \
-            -o "$work/$(basename "$program" .c)-host"
+        expect "$program by the host" cc -std=c99 "${strict[@]}" "${words[@]}" "$program" "${libs[@]}" -o "$work/host/${program%.c}"
     done
-    counts "$work/calls-host" samples tests/number-texts
-    counts "$work/claims-host" samples
-    counts "$work/editions-host" samples
-    example "$work/chassis-host"
-    example_words "$work/chassis-host"
+    run_programs "$work/host"
 }
 
 expect "tools/install.sh" tools/install.sh "$work/lib"

@@ -12,6 +12,7 @@ set -u
 cd "$(dirname "$(readlink -f "$0")")/.." || exit 2
 self=tests/differential.sh
 . tools/build.sh
+. tools/second.sh
 seed=${1:-1} pictures=${2:-1000}
 passed=0 failed=0
 work=target/differential
@@ -23,18 +24,9 @@ give_up() {
     exit 1
 }
 
-# cargo of this machine, or of Debian's packages; the plain one of Debian 12 is too old for the second program
-find_cargo() {
-    PATH=$PATH:$HOME/.cargo/bin
-    command -v cargo >/dev/null && return
-    apt-get update && { apt-get install -y cargo-web || apt-get install -y cargo; }
-}
-
-find_cargo >/dev/null 2>&1 || give_up "cargo is missing, and apt-get does not install it"
 rm -rf "$work"
 mkdir -p "$work"
-(cd second && cargo build --release --offline --quiet) || give_up "the second program does not build"
-second=$PWD/second/target/release/second
+build_second || give_up "there is no second program to compare with"
 for program in batch claimed explain tree trial; do
     build "$program" || give_up "the $program program is not proved"
 done
@@ -51,9 +43,7 @@ compare() {
     "$second" answers <"$work/$name.batch" >"$work/$name.expected" &
     run_built batch <"$work/$name.batch" >"$work/$name.actual" || echo "batch: status $?"
     wait $! || echo "second: status $?"
-    read -r same other < <(awk 'NR == FNR { wanted[FNR] = $0; lines = FNR; next }
-        FNR in wanted && wanted[FNR] == $0 { same++ }
-        END { print same + 0, (lines > FNR ? lines : FNR) - same }' "$work/$name.expected" "$work/$name.actual")
+    read -r same other < <(agreement "$work/$name.expected" "$work/$name.actual")
     passed=$((passed + same)) failed=$((failed + other))
     if ! (cd "$work" && "$second" compare "$name.expected" "$name.actual" "$name.batch") >"$work/$name.compared"; then
         [ "$other" -gt 0 ] || failed=$((failed + 1))

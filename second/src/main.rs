@@ -10,6 +10,9 @@ use second::generate::{generate, hand_written, pictures};
 use second::judge::Judge;
 use second::pairs::pairs;
 use second::samples::{sample, SAMPLE_NAMES};
+use second::stories::stories;
+use second::story_answers::story_answers;
+use second::story_cases::hand_written_stories;
 use second::tally::tally;
 use second::tree::tree;
 
@@ -30,7 +33,10 @@ const USAGE: &str = "usage:
   second tree                                what `fpb tree' prints of it
   second explain                             what `fpb report --explain' prints of it
   second explain PATCH                       what `fpb trial --explain' prints of it and a file with a patch
-  second trial PATCH                         what `fpb trial' prints of it and a file with a patch";
+  second trial PATCH                         what `fpb trial' prints of it and a file with a patch
+  second stories SEED COUNT                  random stories of settings histories on standard output
+  second story-cases                         the hand-written stories on standard output
+  second story-answers                       answers to the stories on standard input";
 
 /// How many differences are shown.
 const DIFFERENCES_SHOWN: usize = 5;
@@ -39,9 +45,9 @@ fn main() -> ExitCode {
     let words: Vec<String> = std::env::args().skip(1).collect();
     let words: Vec<&str> = words.iter().map(String::as_str).collect();
     let done = match words.as_slice() {
-        ["generate", seed, count] => generate_command(seed, count),
+        ["generate", seed, count] => generate_command(generate, seed, count),
         ["batch"] => print(&hand_written()),
-        ["answers"] => answers_command(),
+        ["answers"] => answers_command(answers),
         ["compare", expected, actual, batch] => compare_command(expected, actual, batch),
         ["tally", answers, batch] => tally_command(answers, batch),
         ["picture", seed, kind] => picture_command(seed, kind),
@@ -53,6 +59,9 @@ fn main() -> ExitCode {
         ["explain"] => print_of_picture(explain),
         ["explain", patch] => print_of_trial(patch, explain_trial),
         ["trial", patch] => print_of_trial(patch, trial),
+        ["stories", seed, count] => generate_command(stories, seed, count),
+        ["story-cases"] => print(&hand_written_stories()),
+        ["story-answers"] => answers_command(story_answers),
         _ => Err(USAGE.to_string()),
     };
     done.unwrap_or_else(|message| {
@@ -98,13 +107,13 @@ fn hexadecimal(word: &str) -> Result<u64, String> {
     }
 }
 
-/// `generate SEED COUNT`
-fn generate_command(seed: &str, count: &str) -> Result<ExitCode, String> {
-    print(&generate(number(seed)?, number(count)?))
+/// `generate SEED COUNT` or `stories SEED COUNT`
+fn generate_command(make: fn(u64, u64) -> Vec<u8>, seed: &str, count: &str) -> Result<ExitCode, String> {
+    print(&make(number(seed)?, number(count)?))
 }
 
-/// `answers`
-fn answers_command() -> Result<ExitCode, String> {
+/// `answers` or `story-answers`
+fn answers_command(answers: fn(&[u8]) -> Result<Vec<String>, String>) -> Result<ExitCode, String> {
     let mut text = answers(&standard_input()?)?.join("\n");
     if !text.is_empty() {
         text.push('\n');

@@ -1002,10 +1002,11 @@ static void try_nothing_on_trial(void)
     expect(fpb_trial_walk(NULL, 0, NULL, 0, NULL, 0, 9, 9, 9) == FPB_BUFFER, "trial walk", "nothing", 0);
 }
 
-/* 19 to 29 are no numbers. */
+/* 19 to 22, 24 to 29 and 33 to 36 are no numbers. */
 static int is_number(uint32_t number)
 {
-    return number <= FPB_TAKEN_ID || (number >= FPB_PATCH_HEADER && number <= FPB_PATCH_VECTORS);
+    return number <= FPB_TAKEN_ID || number == FPB_BUFFER_SHORT || (number >= FPB_PATCH_HEADER && number <= FPB_PATCH_VECTORS) ||
+           (number >= FPB_NO_SUCH_BYTE && number <= FPB_NO_SUCH_VERSION);
 }
 
 /* The file has a line for each number, in order, and no other. */
@@ -1018,7 +1019,7 @@ static void try_texts(const char *name)
         printf("%s cannot be opened\n", name);
         return;
     }
-    for (number = 0; number <= FPB_PATCH_VECTORS; number++) {
+    for (number = 0; number <= FPB_NO_SUCH_VERSION; number++) {
         snprintf(wanted, sizeof wanted, "%u %s\n", number, fpb_number_text(number));
         if (is_number(number) && !counted(fgets(line, sizeof line, file) != NULL && strcmp(line, wanted) == 0)) {
             printf("%s has not the line %s", name, wanted);
@@ -1032,7 +1033,9 @@ static void try_texts(const char *name)
 
 static void try_unknown_numbers(void)
 {
-    static const uint32_t unknown[] = {FPB_TAKEN_ID + 1, FPB_PATCH_HEADER - 1, FPB_PATCH_VECTORS + 1, 255, 4294967295U};
+    static const uint32_t unknown[] = {FPB_TAKEN_ID + 1,     FPB_BUFFER_SHORT - 1,  FPB_BUFFER_SHORT + 1,
+                                       FPB_PATCH_HEADER - 1, FPB_PATCH_VECTORS + 1, FPB_NO_SUCH_BYTE - 1,
+                                       FPB_NO_SUCH_VERSION + 1, 255, 4294967295U};
     size_t i;
     for (i = 0; i < COUNT(unknown); i++) {
         if (!counted(strcmp(fpb_number_text(unknown[i]), "not a number of this judge") == 0)) {

@@ -6,6 +6,7 @@
 extern "C" {
 #endif
 typedef struct shim_file FILE;
+extern FILE *stdin;
 extern FILE *stdout;
 extern FILE *stderr;
 FILE *fopen(const char *name, const char *mode);

@@ -1,0 +1,5 @@
+pub mod Change
+pub mod Versions
+pub mod Adding
+pub mod ReadingBack
+pub mod Looking
