@@ -1,13 +1,13 @@
 //! Random stories of settings histories. Most runs that are added fit; the rest of the steps tries every refusal,
 //! winds back and adds anew, reads versions back, and sets numbers kept that the room cannot hold.
 
-use crate::generate::random_of;
+use crate::generate::{random_of, refused_picture};
 use crate::history::{changed, held, Change, Layout};
 use crate::picture::read;
 use crate::random::Random;
 use crate::store::Store;
 use crate::story::{Step, Story};
-use crate::story_pictures::{is_small, refused_first, some_first};
+use crate::story_pictures::{is_small, some_first};
 use crate::story_runs::Scene;
 
 /// One of so many stories has a first picture that does not read, by turns for each of the numbers 1 to 10.
@@ -31,7 +31,7 @@ pub fn stories(seed: u64, count: u64) -> Vec<u8> {
 /// One story, that of an index.
 pub fn story(random: &mut Random, index: u64) -> Story {
     let first = match index % REFUSED_EVERY {
-        0 => refused_first(random, (index / REFUSED_EVERY % 10) as u8 + 1),
+        0 => refused_picture(random, (index / REFUSED_EVERY % 10) as u8 + 1),
         _ => some_first(random),
     };
     let layout = Layout::of(&first).ok();
@@ -81,7 +81,7 @@ fn some_kept(random: &mut Random, room: u32) -> u32 {
 /// small.
 fn some_checks(random: &mut Random, first: &[u8]) -> u32 {
     match first.len() {
-        _ if is_small(first) => random.pick(&[0, 0, 1, 1, 2]),
+        _ if is_small(first) => random.pick(&[0, 0, 0, 1, 1, 2]),
         0..=4_096 if random.percent(10) => 1,
         _ => 0,
     }

@@ -174,54 +174,66 @@ fn handed_over() -> Vec<u8> {
 
 /// What a version is.
 fn version_cases() -> Vec<StoryCase> {
-    let turn = [record(0, 6, 1, 2), record(0, 7, 1, 2), record(0, 6, 2, 1)];
+    vec![each_version(), twice_in_a_run(), buffers()]
+}
+
+/// Secondary 2 above Subordinate 1 claims nothing; 2 to 2 is another bus; 1 to 2 has bus 1 again.
+fn each_version() -> StoryCase {
+    let run = [record(0, 6, 1, 2), record(0, 7, 1, 2), record(0, 6, 2, 1)];
+    let one = one();
+    fresh(
+        "versions: each is the first picture with so many changes made",
+        one.clone(),
+        4,
+        vec![
+            reads(0, &one, 0, clear_to(0)),
+            adds(&run[..1], 1, room(&run[..1], 4)),
+            adds(&run[1..], 3, room(&run, 4)),
+            reads(0, &one, 0, clear_to(0)),
+            reads(1, &with(&one, &[(22, 2)]), 0, clear_to_host()),
+            reads(2, &with(&one, &[(22, 2), (23, 2)]), 0, clear_to_host()),
+            reads(3, &with(&one, &[(23, 2)]), 0, clear_to(0)),
+        ],
+    )
+}
+
+/// Buses 1 to 3 and 1 to 5 have bus 1 as well.
+fn twice_in_a_run() -> StoryCase {
     let one = one();
     let twice = [record(0, 7, 1, 3), record(0, 7, 3, 5)];
-    let same = [record(0, 7, 1, 1)];
-    vec![
-        // Secondary 2 above Subordinate 1 claims nothing; 2 to 2 is another bus; 1 to 2 has bus 1 again
-        fresh(
-            "versions: each is the first picture with so many changes made",
-            one.clone(),
-            4,
-            vec![
-                reads(0, &one, 0, clear_to(0)),
-                adds(&turn[..1], 1, room(&turn[..1], 4)),
-                adds(&turn[1..], 3, room(&turn, 4)),
-                reads(0, &one, 0, clear_to(0)),
-                reads(1, &with(&one, &[(22, 2)]), 0, clear_to_host()),
-                reads(2, &with(&one, &[(22, 2), (23, 2)]), 0, clear_to_host()),
-                reads(3, &with(&one, &[(23, 2)]), 0, clear_to(0)),
-            ],
-        ),
-        fresh(
-            "versions: a byte twice in one run, and a change that changes nothing",
-            one.clone(),
-            3,
-            vec![
-                adds(&twice, 2, room(&twice, 3)),
-                reads(1, &with(&one, &[(23, 3)]), 0, clear_to(0)),
-                reads(2, &with(&one, &[(23, 5)]), 0, clear_to(0)),
-                winds(0),
-                adds(&same, 1, room(&[same[0], twice[1]], 3)),
-                reads(1, &one, 0, clear_to(0)),
-            ],
-        ),
-        fresh(
-            "versions: the rest of a longer buffer stays, a shorter one is 23, and 40 comes before it",
-            one.clone(),
-            1,
-            vec![
-                reads(0, &one, 1, clear_to(0)),
-                reads(0, &one, 100, clear_to(0)),
-                reads_not(0, 71, 23),
-                reads_not(0, 0, 23),
-                reads_not(1, 72, 40),
-                reads_not(1, 71, 40),
-                reads_not(u32::MAX, 0, 40),
-            ],
-        ),
-    ]
+    let same = record(0, 7, 1, 1);
+    fresh(
+        "versions: a byte twice in one run, and a change that changes nothing",
+        one.clone(),
+        3,
+        vec![
+            adds(&twice, 2, room(&twice, 3)),
+            reads(1, &with(&one, &[(23, 3)]), 0, clear_to(0)),
+            reads(2, &with(&one, &[(23, 5)]), 0, clear_to(0)),
+            winds(0),
+            adds(&[same], 1, room(&[same, twice[1]], 3)),
+            reads(1, &one, 0, clear_to(0)),
+        ],
+    )
+}
+
+/// Buffers of all lengths around 72.
+fn buffers() -> StoryCase {
+    let one = one();
+    fresh(
+        "versions: the rest of a longer buffer stays, a shorter one is 23, and 40 comes before it",
+        one.clone(),
+        1,
+        vec![
+            reads(0, &one, 1, clear_to(0)),
+            reads(0, &one, 100, clear_to(0)),
+            reads_not(0, 71, 23),
+            reads_not(0, 0, 23),
+            reads_not(1, 72, 40),
+            reads_not(1, 71, 40),
+            reads_not(u32::MAX, 0, 40),
+        ],
+    )
 }
 
 /// What a change names: the layout is the first picture's.
@@ -353,10 +365,8 @@ fn refusal_cases() -> Vec<StoryCase> {
 
 /// Rooms: full, none at all, with other things in them, and numbers kept above what they hold.
 fn room_cases() -> Vec<StoryCase> {
-    let (good, next) = (record(0, 7, 1, 3), record(0, 7, 3, 5));
-    let strange = Change { port: 9, ..good };
+    let (good, next, last) = (record(0, 7, 1, 3), record(0, 7, 3, 5), record(0, 7, 5, 7));
     let full = || vec![good, next];
-    let last = record(0, 7, 5, 7);
     vec![
         fresh(
             "room: exactly full, and an empty run",
@@ -372,19 +382,7 @@ fn room_cases() -> Vec<StoryCase> {
             ],
         ),
         fresh("room: none at all", one(), 0, vec![adds(&[], 0, vec![]), refuses(&[good], 39, vec![])]),
-        StoryCase {
-            name: "room: a kept record that names no byte changes nothing, and old bytes there do not count",
-            first: one(),
-            room: vec![strange, record(0, 7, 9, 3), Change { part: 2, ..good }, good],
-            kept: 3,
-            told: vec![
-                reads(1, &one(), 0, clear_to(0)),
-                reads(3, &with(&one(), &[(23, 3)]), 0, clear_to(0)),
-                refuses(&[good], 38, vec![strange, record(0, 7, 9, 3), Change { part: 2, ..good }, good]),
-                adds(&[next], 4, vec![strange, record(0, 7, 9, 3), Change { part: 2, ..good }, next]),
-                reads(4, &with(&one(), &[(23, 5)]), 0, clear_to(0)),
-            ],
-        },
+        strange_room(),
         StoryCase {
             name: "room: more kept than it holds",
             first: one(),
@@ -393,6 +391,26 @@ fn room_cases() -> Vec<StoryCase> {
             told: overfull(),
         },
     ]
+}
+
+/// A room that nobody filled by adding.
+fn strange_room() -> StoryCase {
+    let (good, next) = (record(0, 7, 1, 3), record(0, 7, 3, 5));
+    let kept = [Change { port: 9, ..good }, record(0, 7, 9, 3), Change { part: 2, ..good }];
+    let with_fourth = |fourth: Change| [&kept[..], &[fourth]].concat();
+    StoryCase {
+        name: "room: a kept record that names no byte changes nothing, and old bytes there do not count",
+        first: one(),
+        room: with_fourth(good),
+        kept: 3,
+        told: vec![
+            reads(1, &one(), 0, clear_to(0)),
+            reads(3, &with(&one(), &[(23, 3)]), 0, clear_to(0)),
+            refuses(&[good], 38, with_fourth(good)),
+            adds(&[next], 4, with_fourth(next)),
+            reads(4, &with(&one(), &[(23, 5)]), 0, clear_to(0)),
+        ],
+    }
 }
 
 /// A room of two changes, of which three are kept, and then as many as can be said.

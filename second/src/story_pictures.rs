@@ -1,8 +1,7 @@
-//! First pictures of stories: small ones of both editions, sound or wild, now and then a large one, and pictures
-//! that do not read, for each of the numbers 1 to 10.
+//! First pictures of stories that read: small ones of both editions, sound or wild, and now and then a large one.
 
 use crate::draft::{Draft, DraftPort};
-use crate::generate::{refused_picture, sound_draft};
+use crate::generate::sound_draft;
 use crate::picture::records_of;
 use crate::random::Random;
 use crate::samples::{sample, SAMPLE_NAMES};
@@ -19,11 +18,6 @@ pub fn some_first(random: &mut Random) -> Vec<u8> {
         3..=16 => drawn(random),
         _ => small_first(random),
     }
-}
-
-/// A picture that is refused by this number, from 1 to 10.
-pub fn refused_first(random: &mut Random, number: u8) -> Vec<u8> {
-    refused_picture(random, number)
 }
 
 /// Is the picture small?

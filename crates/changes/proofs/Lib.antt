@@ -1,3 +1,6 @@
-pub mod Named
 pub mod Lists
 pub mod Rooms
+pub mod Named
+pub mod Reading
+pub mod Held
+pub mod BackRead

@@ -10,6 +10,7 @@ pub use made::lay_first;
 pub use made::make_change;
 pub use numbers::adding_number;
 pub use numbers::as_far;
+pub use numbers::changes_in;
 pub use numbers::held_in;
 pub use numbers::keep;
 pub use numbers::lower_number;

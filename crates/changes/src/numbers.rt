@@ -35,10 +35,16 @@ pub fn as_far(number: u32, n: usize) -> usize
     if number == 0 { n } else { 0 }
 }
 
+// How many changes version k has: none once a number refuses.
+pub fn changes_in(number: u32, k: u32) -> usize
+    ensures { λ r. ⌜ r ≡ cond (eqb number 0) k 0 ⌝ }
+{
+    as_far(number, k as usize)
+}
+
 // How many of the changes kept stand in a room.
 pub fn held_in(kept: u32, records: usize) -> usize
     ensures { λ r. ⌜ r ≡ cond (ltb records kept) records kept ⌝ }
-    ensures { λ r. ⌜ r ≤ records ⌝ }
 {
     if records < kept as usize { records } else { kept as usize }
 }
