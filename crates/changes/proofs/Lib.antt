@@ -4,3 +4,4 @@ pub mod Named
 pub mod Reading
 pub mod Held
 pub mod BackRead
+pub mod Stood

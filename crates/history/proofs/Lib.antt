@@ -1,3 +1,4 @@
 pub mod Machine
 pub mod Told
+pub mod Again
 pub mod Called
