@@ -5,3 +5,4 @@ pub mod Reading
 pub mod Held
 pub mod BackRead
 pub mod Stood
+pub mod Added

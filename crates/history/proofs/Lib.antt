@@ -1,4 +1,5 @@
 pub mod Machine
 pub mod Told
 pub mod Again
+pub mod Shared
 pub mod Called
