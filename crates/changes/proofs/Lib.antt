@@ -6,3 +6,4 @@ pub mod Held
 pub mod BackRead
 pub mod Stood
 pub mod Added
+pub mod Turns

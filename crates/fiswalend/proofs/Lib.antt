@@ -1,3 +1,4 @@
 pub mod Forty
 pub mod CheckCalls
 pub mod WalkCalls
+pub mod VersionCalled
