@@ -8,6 +8,7 @@ use native.Mathlib.Omega.{arith}
 use borrow.Author.Tests.{eqb-true, eqb-false, ltb-false}
 use lib.Dec.{eqb, ltb}
 use lib.ListN.{length, drop}
+use lib.Seq.{set-append-left}
 use Rattle.least.specs.declared.Found.{Found}
 use Rattle.least.specs.declared.Found.the-variants.{At, Nothing}
 use Rattle.chassis.proofs.Bools.{or-false-parts}
@@ -17,7 +18,6 @@ use Rattle.changes.specs.Change.{byteNamed}
 use Rattle.changes.specs.Versions.{withByte, made, changeAt, madeUpTo, version}
 use Rattle.changes.specs.Adding.{orNext}
 use Rattle.changes.specs.ReadingBack.{versionNumber, readBack}
-use Rattle.changes.proofs.Lists.{set-front}
 use Rattle.changes.proofs.Named.{named, within}
 use Rattle.changes.proofs.Reading.{Read-as}
 use Rattle.changes.proofs.Held.{up-to-length}
@@ -28,7 +28,7 @@ module _ (first : List ℕ) (sound : Read-as first) where
   made-front c bytes rest same = go (byteNamed first c) refl
     where
       go : (found : Found) → byteNamed first c ≡ found → withByte found (c .«new_byte») (bytes ++ rest) ≡ withByte found (c .«new_byte») bytes ++ rest
-      go (At x) e = set-front bytes rest x (c .«new_byte») (subst (λ (n : ℕ). x < n) (sym same) (within first (sound .header) (sound .all) c x (named first c x e)))
+      go (At x) e = set-append-left bytes rest x (c .«new_byte») (subst (λ (n : ℕ). x < n) (sym same) (within first (sound .header) (sound .all) c x (named first c x e)))
       go Nothing e = refl
 
   pub up-to-front : (changes : List Change) (bytes rest : List ℕ) → length bytes ≡ length first → (k : ℕ) → madeUpTo first changes (bytes ++ rest) k ≡ madeUpTo first changes bytes k ++ rest

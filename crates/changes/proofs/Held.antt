@@ -10,6 +10,7 @@ use native.Mathlib.Omega.{arith}
 use borrow.Author.Tests.{eqb-true, ltb-true}
 use lib.Dec.{eqb, ltb}
 use lib.ListN.{length, getD, set, length-set, List·getD-eq-default}
+use lib.Seq.{getD-set-same, getD-set-other}
 use Rattle.least.proofs.Laws.{impossible}
 use Rattle.least.specs.declared.Found.{Found}
 use Rattle.least.specs.declared.Found.the-variants.{At, Nothing}
@@ -22,7 +23,6 @@ use Rattle.changes.specs.Change.{partBytes, byteNamed}
 use Rattle.changes.specs.Versions.{withByte, made, noChange, changeAt, madeUpTo, version}
 use Rattle.changes.specs.Adding.{isNone, byteAt, isAnother, namesNone, oldWrong, runNumber, roomFull, orNext, addingNumber}
 use Rattle.changes.specs.Looking.{sameByte, heldAfter, heldUpTo, lower}
-use Rattle.changes.proofs.Lists.{set-there, set-elsewhere}
 use Rattle.changes.proofs.Named.{named, within, same-place}
 use Rattle.changes.proofs.Reading.{Read-as}
 
@@ -61,10 +61,10 @@ module _ (first : List ℕ) (sound : Read-as first) (c : Change) (x : ℕ) (is :
       go (At y) e true s =
           let one : At y ≡ At x = sym e ∙ same-named first d c s ∙ is in
           let place : y ≡ x = cc in
-          rw place (set-there bytes x (d .«new_byte») 0 there)
+          rw place (getD-set-same bytes x (d .«new_byte») 0 there)
       go (At y) e false s =
-          set-elsewhere bytes y x (d .«new_byte») 0 (λ (place : y ≡ x).
-          let t : true ≡ false = sym (same-place first (sound .header) (sound .all) d c x (named first d x (rw (← place) e)) (named first c x is)) ∙ s in impossible (cc))
+          getD-set-other bytes y x (d .«new_byte») 0 (λ (place : x ≡ y).
+          let t : true ≡ false = sym (same-place first (sound .header) (sound .all) d c x (named first d x (rw place e)) (named first c x is)) ∙ s in impossible (cc))
       go Nothing e true s = let one : Nothing ≡ At x = sym e ∙ same-named first d c s ∙ is in impossible (cc)
       go Nothing e false s = refl
 

@@ -1,4 +1,3 @@
-pub mod Lists
 pub mod Rooms
 pub mod Named
 pub mod Reading
@@ -7,3 +6,4 @@ pub mod BackRead
 pub mod Stood
 pub mod Added
 pub mod Turns
+pub mod Histories

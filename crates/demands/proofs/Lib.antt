@@ -13,3 +13,5 @@ pub mod WorkedTrial
 pub mod WorkedVideo
 pub mod WorkedRedirect
 pub mod WorkedChain
+pub mod Histories
+pub mod WorkedHistory

@@ -1,9 +1,7 @@
-use Rattle.changes.proofs.Lists.{laid}
-use mathlib.Core.Path.{sym, _∙_, ap}
-use borrow.Author.Tests.{lt-ltb, le-ltb, eq-eqb, ne-eqb}
+use mathlib.Core.Path.{_≡_, _∙_, ap}
+use borrow.Author.Tests.{eq-eqb, ne-eqb}
 use mathlib.Core.List.{List, _++_}
-use Prim.Native.Nat.{ℕ}
-use lib.ListN.{drop}
+use lib.ListN.{length, take, drop}
 use lib.Seq.{take-length}
 use borrow.Author.Needs.{needs}
 use Rattle.changes.proofs.made.lay_first.Statement.{statement}
@@ -11,6 +9,10 @@ use Rattle.changes.proofs.made.lay_first.Tie as tie
 use Rattle.changes.proofs.made.lay_first.Reads as reads
 use Rattle.changes.proofs.made.lay_first.Lts as lts
 use Rattle.bytes.proofs.copy.Reads as copy-reads
+
+-- a list laid into another
+laid : {E : Type 0} (src dst : List E) {out : List E} → out ≡ take (length src) src ++ drop (length src) dst → out ≡ src ++ drop (length src) dst
+laid src dst e = e ∙ ap (λ (l : List _). l ++ drop (length src) dst) (take-length src)
 
 -- src/made.rt:60:9
 copy-requires : tie.Need-copy-requires

@@ -1,4 +1,4 @@
-use Rattle.changes.proofs.Lists.{set-past}
+use lib.Seq.{set-out}
 use Rattle.changes.specs.Versions.{made}
 use mathlib.Core.Path.{sym, _∙_, ap}
 use borrow.Author.Needs.{needs}
@@ -41,7 +41,7 @@ returns-2 c = rw (← c .before .before .before .before .byte-named .ensures, c 
 -- src/made.rt:40:1
 returns-3 : tie.Need-returns-3
 unfolding made
-returns-3 c = rw (← c .before .before .before .before .byte-named .ensures, c .before .before .named .given .1) (sym (set-past _ _ _ (c .if1 .left)))
+returns-3 c = rw (← c .before .before .before .before .byte-named .ensures, c .before .before .named .given .1) (sym (set-out _ _ _ (c .if1 .left)))
 
 pub make-change-spec : {M : Type 1} → statement M
 make-change-spec =
