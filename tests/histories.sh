@@ -21,12 +21,6 @@ give_up() {
     exit 1
 }
 
-# build_driver: compiles and links tests/c/histories.c
-build_driver() {
-    local words=(-std=c99 -Wall -Wextra -Wpedantic -Werror -isystem tests/c/headers -I include)
-    kit_cc "$work/driver.o" "${words[@]}" tests/c/histories.c && kit_link "$work/driver" "$work/driver.o" "$built/fiswalend.a"
-}
-
 driver() { run_x86 "$work/driver" "$@"; }
 
 # refused BYTES: that the driver does not take these for stories, and says so
@@ -80,7 +74,7 @@ rm -rf "$work"
 mkdir -p "$work"
 build_second || give_up "there is no second program to compare with"
 build fiswalend.a || give_up "the archive is not proved"
-build_driver >"$work/said" 2>&1 || give_up "the driver is not compiled and linked: $(cat "$work/said")"
+build_histories "$work/driver" >"$work/said" 2>&1 || give_up "the driver is not compiled and linked: $(cat "$work/said")"
 echo "built at $SECONDS s"
 for bytes in 1 '\377\377\377\377' '\0\0\0\0' '\0\0\0\0\1\20\0\0' '\0\0\0\0\0\0\0\0\0\0\0\0\1\0\0\0' \
     '\0\0\0\0\0\0\0\0\0\0\0\0\1\0\0\0\5' '\0\0\0\0\0\0\0\0\0\0\0\0\1\0\0\0\1\1\0\0\0'; do

@@ -1,6 +1,7 @@
 #!/usr/bin/env bash
 # bench.sh [--no-counts]: the proved calls as native machine code, against the same algorithm in plain Rust (bench/), side by
-# side in one run: times, instruction counts by callgrind, trials, and growth. Prints tables; docs/BENCHMARKS.md has those of one run.
+# side in one run: times, instruction counts by callgrind, trials, and growth; then what a long history costs. Prints tables;
+# docs/BENCHMARKS.md has those of one run.
 set -eu
 case "$*" in
     "" | --no-counts) ;;
@@ -62,6 +63,9 @@ echo
 "$bench" trials "${pictures[@]}"
 echo
 "$bench" growth
+echo
+cc -O2 -Iinclude bench/history.c "$work"/fiswalend.[ao] -o "$work/history"
+"$work/history" "$work/flat.picture"
 [ "${1:-}" != --no-counts ] || exit 0
 command -v valgrind >/dev/null || { echo "valgrind is missing: no counts"; exit 0; }
 

@@ -172,9 +172,27 @@ fn handed_over() -> Vec<u8> {
     Draft::of(vec![root(0x0008).vector(Which::Rid, shape(0, 0, 0x20), &[]), root(0x0010)]).bytes()
 }
 
+/// Edition 1, a root port that has a MEM Low vector of 512 bytes from 72 on, and no memory space. 584 bytes.
+fn long_vector() -> Vec<u8> {
+    Draft::of(vec![root(0x0008).vector(Which::Low, shape(4, 0, 0), &[])]).bytes()
+}
+
+/// Edition 1, a root port that has a RID vector of 32 bytes from 72 on, whose entry 1 is for 0108h, a MEM Low vector
+/// from 104 on and a MEM High vector from 136 on, and no memory space. 168 bytes.
+fn all_vectors() -> Vec<u8> {
+    let port =
+        root(0x0008).vector(Which::Rid, shape(0, 0, 0x20), &[]).vector(Which::Low, shape(0, 0, 0), &[]);
+    Draft::of(vec![port.vector(Which::High, shape(0, 0, 16), &[])]).bytes()
+}
+
+/// Edition 1, two root ports that both are 0008h: records from 16 and 72 on. 128 bytes.
+fn one_id_twice() -> Vec<u8> {
+    Draft::of(vec![root(0x0008), root(0x0008)]).bytes()
+}
+
 /// What a version is.
 fn version_cases() -> Vec<StoryCase> {
-    vec![each_version(), twice_in_a_run(), buffers()]
+    vec![each_version(), twice_in_a_run(), buffers(), unsound()]
 }
 
 /// Secondary 2 above Subordinate 1 claims nothing; 2 to 2 is another bus; 1 to 2 has bus 1 again.
@@ -236,9 +254,34 @@ fn buffers() -> StoryCase {
     )
 }
 
+/// The first picture reads, and the check gives 11 for it; version 1 makes port 1 the Function 0010h.
+fn unsound() -> StoryCase {
+    let first = one_id_twice();
+    let change = record(1, 2, 0x08, 0x10);
+    let overlap = (answer(11, [0, 0, 1, 0, 0], &[8, 0, 0, 0, 0, 0, 0, 0]), clear_to_host().1);
+    fresh(
+        "versions: the first picture need not pass the check",
+        first.clone(),
+        1,
+        vec![
+            reads(0, &first, 0, overlap),
+            adds(&[change], 1, vec![change]),
+            reads(1, &with(&first, &[(74, 0x10)]), 0, clear_to_host()),
+            reads(0, &first, 0, overlap),
+        ],
+    )
+}
+
 /// What a change names: the layout is the first picture's.
 fn layout_cases() -> Vec<StoryCase> {
-    vec![bounds_of_edition_2(), bounds_of_edition_1(), another_layout()]
+    vec![
+        bounds_of_edition_2(),
+        bounds_of_edition_1(),
+        another_layout(),
+        another_start(),
+        whole_numbers(),
+        three_vectors(),
+    ]
 }
 
 /// The first and last bytes of each part in edition 2, and what lies past them.
@@ -322,6 +365,72 @@ fn another_layout() -> StoryCase {
             refuses(&[vectors(1, 0, 0, 2)], 37, room(&run, 8)),
             adds(&[set], 7, room(&seven, 8)),
             reads(7, &with(&with(&first, &places), &[(128, 2)]), 0, clear_to(1)),
+        ],
+    )
+}
+
+/// Port 1 has 88h as the start of its vectors, byte 128 of the picture. While it is another, 10 is given for port 1.
+fn another_start() -> StoryCase {
+    let two = two();
+    let run =
+        [record(1, 52, 0x88, 0x90), vectors(1, 0, 0, 2), vectors(1, 0, 2, 6), record(1, 52, 0x90, 0x88)];
+    fresh(
+        "layout: vectors stay where they are when their start is changed",
+        two.clone(),
+        4,
+        vec![
+            adds(&run[..2], 2, room(&run[..2], 4)),
+            reads(2, &with(&two, &[(128, 0x90), (136, 2)]), 0, unreadable(10, 1)),
+            adds(&run[2..], 4, run.to_vec()),
+            reads(3, &with(&two, &[(128, 0x90), (136, 6)]), 0, unreadable(10, 1)),
+            reads(4, &with(&two, &[(136, 6)]), 0, clear_to(1)),
+        ],
+    )
+}
+
+/// Each change refused would meet its old byte if a number of it were cut to 8, 16 or 24 bits: byte 0 of the record or
+/// of the vectors.
+fn whole_numbers() -> StoryCase {
+    let first = long_vector();
+    let run = [vectors(0, 256, 0, 3), vectors(0, 511, 0, 4), vectors(0, 0, 0, 5)];
+    let mut told = Vec::new();
+    for cut in [0x100, 0x1_0000, 0x100_0000] {
+        told.extend([
+            refuses(&[record(cut, 0, 0, 1)], 37, room(&[], 3)),
+            refuses(&[vectors(cut, 0, 0, 1)], 37, room(&[], 3)),
+            refuses(&[Change { part: cut, ..record(0, 0, 0, 1) }], 37, room(&[], 3)),
+            refuses(&[Change { part: cut + 1, ..record(0, 0, 0, 1) }], 37, room(&[], 3)),
+            refuses(&[record(0, cut, 0, 1)], 37, room(&[], 3)),
+        ]);
+    }
+    told.extend([
+        refuses(&[vectors(0, 512, 0, 1)], 37, room(&[], 3)),
+        refuses(&[vectors(0, 0x1_0000, 0, 1)], 37, room(&[], 3)),
+        refuses(&[vectors(0, 0x100_0000, 0, 1)], 37, room(&[], 3)),
+        adds(&run, 3, run.to_vec()),
+        reads(1, &with(&first, &[(328, 3)]), 0, clear_to_host()),
+        reads(2, &with(&first, &[(328, 3), (583, 4)]), 0, clear_to_host()),
+        reads(3, &with(&first, &[(328, 3), (583, 4), (72, 5)]), 0, clear_to_host()),
+    ]);
+    fresh("layout: no number of a change is cut", first, 3, told)
+}
+
+/// The bytes at the ends of the three vectors of a port.
+fn three_vectors() -> StoryCase {
+    let first = all_vectors();
+    let run = [vectors(0, 95, 0, 0x80), vectors(0, 64, 0, 1), vectors(0, 63, 0, 0x80), vectors(0, 0, 0, 2)];
+    let places = [(167, 0x80), (136, 1), (135, 0x80), (72, 2)];
+    fresh(
+        "layout: the vectors of all mechanisms are one part",
+        first.clone(),
+        4,
+        vec![
+            refuses(&[vectors(0, 96, 0, 1)], 37, room(&[], 4)),
+            adds(&run, 4, run.to_vec()),
+            reads(1, &with(&first, &places[..1]), 0, clear_to_host()),
+            reads(2, &with(&first, &places[..2]), 0, clear_to_host()),
+            reads(3, &with(&first, &places[..3]), 0, clear_to_host()),
+            reads(4, &with(&first, &places), 0, clear_to(0)),
         ],
     )
 }

@@ -11,7 +11,7 @@ use lib.ListN.{length}
 use Rattle.picture.specs.Reading.{reading, numberOf}
 use Rattle.changes.specs.declared.Change.{Change}
 use Rattle.changes.specs.Versions.{version}
-use Rattle.changes.specs.Adding.{mostRecords, countedOf, roomFull, runNumber, orNext, addingNumber}
+use Rattle.changes.specs.Adding.{mostRecords, countedOf, roomFull, runNumber, addingNumber}
 
 pub record Added (first : List ℕ) (room run : List Change) (kept : ℕ) : Type 0 where
   pub read : numberOf (reading first) ≡ 0

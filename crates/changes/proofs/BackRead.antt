@@ -11,12 +11,10 @@ use lib.ListN.{length, drop}
 use lib.Seq.{set-append-left}
 use Rattle.least.specs.declared.Found.{Found}
 use Rattle.least.specs.declared.Found.the-variants.{At, Nothing}
-use Rattle.chassis.proofs.Bools.{or-false-parts}
 use Rattle.picture.specs.Reading.{reading, numberOf}
 use Rattle.changes.specs.declared.Change.{Change}
 use Rattle.changes.specs.Change.{byteNamed}
-use Rattle.changes.specs.Versions.{withByte, made, changeAt, madeUpTo, version}
-use Rattle.changes.specs.Adding.{orNext}
+use Rattle.changes.specs.Versions.{withByte, made, changeAt, madeUpTo}
 use Rattle.changes.specs.ReadingBack.{versionNumber, readBack}
 use Rattle.changes.proofs.Named.{named, within}
 use Rattle.changes.proofs.Reading.{Read-as}

@@ -1,7 +1,7 @@
 -- The versions of a history before and after a run is added.
 -- Assumes nothing.
 use Prim.Native.Nat.{ℕ, zero, suc, _+_, _<_, _≤_}
-use mathlib.Core.Bool.{Bool, true, false, cond, not}
+use mathlib.Core.Bool.{Bool, true, false, cond}
 use mathlib.Core.List.{List}
 use mathlib.Core.Path.{_≡_, refl, sym, ap, _∙_, subst}
 use native.Mathlib.Nat.{add-zero, add-suc}
@@ -18,7 +18,7 @@ use Rattle.chassis.proofs.Bools.{or-false-parts}
 use Rattle.chassis.specs.Tree.{anyBelow}
 use Rattle.changes.specs.declared.Change.{Change}
 use Rattle.changes.specs.Change.{byteNamed}
-use Rattle.changes.specs.Versions.{withByte, made, noChange, changeAt, madeUpTo, version}
+use Rattle.changes.specs.Versions.{made, noChange, changeAt, madeUpTo, version}
 use Rattle.changes.specs.Adding.{isNone, byteAt, isAnother, namesNone, oldWrong, runNumber, addingNumber, behind}
 use Rattle.changes.proofs.Named.{named, within}
 use Rattle.changes.proofs.Reading.{Read-as, reads-zero}
@@ -146,11 +146,11 @@ module _ (first : List ℕ) (room run : List Change) (kept : ℕ) (zero-number :
             place = x;
             names = e;
             old-there =
-              ap (λ (b : List ℕ). getD b x 0) (above-kept first room run kept fits-in i (omega (arith, l)))
-              ∙ eqb-true _ _ (not-false (eqb (getD bytes x 0) (c .«old_byte»)) same);
+                ap (λ (b : List ℕ). getD b x 0) (above-kept first room run kept fits-in i (omega (arith, l)))
+                ∙ eqb-true _ _ (not-false (eqb (getD bytes x 0) (c .«old_byte»)) same);
             new-there =
-              ap (λ (k : ℕ). getD (version first (behind room kept run) k) x 0) (sym (add-suc kept i))
-              ∙ ap (λ (b : List ℕ). getD b x 0) (above-kept first room run kept fits-in (suc i) l)
-              ∙ new-is x e;
+                ap (λ (k : ℕ). getD (version first (behind room kept run) k) x 0) (sym (add-suc kept i))
+                ∙ ap (λ (b : List ℕ). getD b x 0) (above-kept first room run kept fits-in (suc i) l)
+                ∙ new-is x e;
           }
       go Nothing e some same = impossible (cc)

@@ -1,21 +1,18 @@
 -- Where the bytes lie that changes name: in a picture that reads each lies within it, and only the same port, part and place name one
 -- byte twice.
 -- Assumes nothing.
-use Prim.Native.Nat.{ℕ, zero, suc, zero-le, _+_, _-_, _<_, _≤_}
+use Prim.Native.Nat.{ℕ, suc, zero-le, _+_, _-_, _<_, _≤_}
 use mathlib.Core.Bool.{Bool, true, false, cond, _&&_}
 use mathlib.Core.List.{List}
 use mathlib.Core.Logic.{_⊎_, inl, inr, ⊎-elim}
-use mathlib.Core.Path.{_≡_, refl, sym, ap, _∙_, subst}
-use native.Mathlib.Nat.{le-refl, le-trans, eq-or-lt-of-le}
+use mathlib.Core.Path.{_≡_, refl, sym, ap, _∙_}
 use native.Mathlib.Decide.{decLt}
 use native.Mathlib.Omega.{arith}
 use borrow.Author.Tests.{ltb-true, eqb-true, eq-eqb}
 use lib.Dec.{eqb, ltb}
 use lib.ListN.{length}
 use Rattle.least.proofs.Laws.{impossible}
-use Rattle.least.specs.declared.Found.{Found}
 use Rattle.least.specs.declared.Found.the-variants.{At, Nothing}
-use Rattle.chassis.proofs.Bools.{and-true-parts}
 use Rattle.registers.proofs.Laws.{record-next, record-mono}
 use Rattle.registers.specs.Record.{editionOf, recordBytes, recordAt, recordIn, portAt}
 use Rattle.trees.specs.Trees.{countOf}

@@ -3,7 +3,7 @@
 use Prim.Native.Nat.{ℕ, _<_, _≤_, _^_}
 use mathlib.Core.Bool.{Bool, true, false, cond}
 use mathlib.Core.List.{List}
-use mathlib.Core.Path.{_≡_, refl, sym, ap, _∙_, subst}
+use mathlib.Core.Path.{_≡_, refl, subst}
 use native.Mathlib.Omega.{arith}
 use borrow.Author.Tests.{eqb-true}
 use lib.Dec.{eqb}
@@ -15,7 +15,7 @@ use Rattle.trees.specs.Trees.{countOf}
 use Rattle.picture.proofs.WhatReads.{Reads, reads, count-read, count-few}
 use Rattle.picture.specs.declared.Header.{Header}
 use Rattle.picture.specs.declared.Reading.{Reading}
-use Rattle.picture.specs.declared.Reading.the-variants.{Read, Refused}
+use Rattle.picture.specs.declared.Reading.the-variants.{Read}
 use Rattle.picture.specs.declared.Rule.the-variants.{Tree, Chain, Settings, Start}
 use Rattle.picture.specs.Header.{headerOf, lengthWrong, editionWrong, countWrong, totalWrong, offsetWrong}
 use Rattle.picture.specs.Reading.{breaks, misplacedIn, refusedIf, refusedAt, portsReading, reading, numberOf}

@@ -1,10 +1,10 @@
 -- A run that is written into a room record by record stands there whole.
 -- Assumes nothing.
-use Prim.Native.Nat.{ℕ, zero, suc, zero-le, _+_, _≤_}
+use Prim.Native.Nat.{ℕ, zero, suc, _+_, _≤_}
 use mathlib.Core.Bool.{Bool, true, false, cond}
 use mathlib.Core.List.{List, [], _∷_, _++_}
 use mathlib.Core.Path.{_≡_, refl, sym, ap, _∙_}
-use native.Mathlib.Nat.{zero-add, suc-add, add-zero, not-suc-le-zero, le-of-suc-le-suc}
+use native.Mathlib.Nat.{zero-add, suc-add, not-suc-le-zero, le-of-suc-le-suc}
 use native.Mathlib.Omega.{arith}
 use borrow.Author.Tests.{eqb-true, le-ltb}
 use lib.Dec.{eqb, ltb}

@@ -1,7 +1,7 @@
 -- 02, Item 11: "Winding back to version k drops the later changes ..; a k above the last is 40."; "Each version read back equals what
 -- its history says."
 use Prim.Native.Nat.{ℕ}
-use mathlib.Core.Bool.{Bool, cond, _||_}
+use mathlib.Core.Bool.{cond, _||_}
 use mathlib.Core.List.{List, _++_}
 use lib.Dec.{ltb}
 use lib.ListN.{length, drop}

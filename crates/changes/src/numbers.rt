@@ -46,7 +46,11 @@ pub fn changes_in(number: u32, k: u32) -> usize
 pub fn held_in(kept: u32, records: usize) -> usize
     ensures { λ r. ⌜ r ≡ cond (ltb records kept) records kept ⌝ }
 {
-    if records < kept as usize { records } else { kept as usize }
+    if records < kept as usize {
+        records
+    } else {
+        kept as usize
+    }
 }
 
 // 37 or 38 so far, and with a change more whose byte is `held` before it.
@@ -74,7 +78,11 @@ fn worst(number: u32, wrong: bool) -> u32
 fn counted(records: usize) -> usize
     ensures { λ r. ⌜ r ≡ countedOf records ⌝ }
 {
-    if MOST_RECORDS < records { MOST_RECORDS } else { records }
+    if MOST_RECORDS < records {
+        MOST_RECORDS
+    } else {
+        records
+    }
 }
 
 // Number 39: whether a room has no place for some changes more.
@@ -98,7 +106,11 @@ pub fn adding_number(first: u32, run: u32, records: usize, kept: u32, count: usi
     if run != 0 {
         return run;
     }
-    if room_full(records, kept, count) { 39 } else { 0 }
+    if room_full(records, kept, count) {
+        39
+    } else {
+        0
+    }
 }
 
 // The number that winding back ends with.

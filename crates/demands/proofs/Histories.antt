@@ -1,9 +1,9 @@
 -- 02, Item 11: the statements of specs/History.antt, proved.
 -- Assumes nothing.
-use Prim.Native.Nat.{ℕ, _+_, _≤_}
+use Prim.Native.Nat.{ℕ, _+_}
 use mathlib.Core.Bool.{Bool, true, false, cond, _||_, _&&_}
 use mathlib.Core.List.{List, [], _∷_, _++_}
-use mathlib.Core.Path.{_≡_, refl, sym, ap, _∙_, subst}
+use mathlib.Core.Path.{_≡_, refl, ap, _∙_}
 use borrow.Author.Tests.{le-ltb, ne-eqb, eq-eqb, eqb-true}
 use lib.Dec.{eqb, ltb}
 use lib.ListN.{length, take, drop}
@@ -13,19 +13,16 @@ use Rattle.chassis.specs.Tree.{anyBelow}
 use Rattle.least.proofs.Laws.{impossible}
 use Rattle.least.specs.declared.Found.the-variants.{At}
 use Rattle.picture.specs.Reading.{reading, numberOf}
-use Rattle.changes.specs.declared.Change.{Change}
 use Rattle.changes.specs.Change.{byteNamed}
 use Rattle.changes.specs.Versions.{version}
 use Rattle.changes.specs.Adding.{namesNone, oldWrong, runNumber, roomFull, addingNumber}
-use Rattle.changes.specs.ReadingBack.{windBackNumber, versionNumber, readBack}
-use Rattle.changes.specs.Looking.{sameByte}
+use Rattle.changes.specs.ReadingBack.{versionNumber, readBack}
 use Rattle.changes.proofs.Held.{same-named, up-to-length}
 use Rattle.changes.proofs.Histories.{fits-in, behind-length, before-kept, above-kept, changes-so}
 use Rattle.changes.proofs.Named.{named, same-place}
 use Rattle.changes.proofs.Reading.{reads-zero}
-use Rattle.fiswalend.specs.History.{AddCall, WindBackCall, VersionCall}
 use Rattle.demands.specs.Demands.{oneOf, ofReading}
-use Rattle.demands.specs.History.{HistoryNumbers, Did, RunAdded, HistoryAdded, HistoryWoundBack, HistoryRefused, HistoryReadBack, HistoryNamed}
+use Rattle.demands.specs.History.{HistoryNumbers, HistoryAdded, HistoryWoundBack, HistoryRefused, HistoryReadBack, HistoryNamed}
 use Rattle.demands.proofs.Numbers.{reading-in-table}
 
 -- one of a list is one of a longer one

@@ -2,7 +2,7 @@
 -- Assumes nothing.
 use Prim.Native.Nat.{ℕ}
 use mathlib.Core.List.{List, [], _∷_}
-use mathlib.Core.Path.{_≡_, refl}
+use mathlib.Core.Path.{_≡_}
 use Rattle.lent.specs.Lent.{u16At, u32At}
 use Rattle.chassis.specs.Tree.{anyBelow}
 use Rattle.registers.specs.Record.{fpbAt, portAt, recordAt}

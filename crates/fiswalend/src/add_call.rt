@@ -7,7 +7,13 @@ ghost use Rattle.fiswalend.specs.History.{AddCall};
 
 // Adds a run behind the changes kept, whole or not at all, and says how many are kept then.
 #[no_mangle]
-pub extern "C" fn fpb_history_add(first: &[u8], room: &mut [Change], run: &[Change], kept: u32, now_kept: &mut u32) -> u32
+pub extern "C" fn fpb_history_add(
+    first: &[u8],
+    room: &mut [Change],
+    run: &[Change],
+    kept: u32,
+    now_kept: &mut u32,
+) -> u32
     ensures { λ r. ⌜ AddCall (now (first .entry)) (now (room .entry)) (now (run .entry)) kept (now («now_kept» .entry)) r (now (room .exit)) (now («now_kept» .exit)) ⌝ }
 {
     let number = number_of_adding(first, room, run, kept);

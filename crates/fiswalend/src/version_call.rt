@@ -9,7 +9,13 @@ ghost use Rattle.fiswalend.specs.History.{VersionCall};
 
 // Writes version k into a buffer: the first picture, then the first k changes made.
 #[no_mangle]
-pub extern "C" fn fpb_history_version(first: &[u8], room: &[Change], out: &mut [u8], kept: u32, k: u32) -> u32
+pub extern "C" fn fpb_history_version(
+    first: &[u8],
+    room: &[Change],
+    out: &mut [u8],
+    kept: u32,
+    k: u32,
+) -> u32
     ensures { λ r. ⌜ VersionCall (now (first .entry)) (now (room .entry)) kept k (now (out .entry)) r (now (out .exit)) ⌝ }
 {
     let number = version_number(first, room.len(), out.len(), kept, k);

@@ -105,7 +105,7 @@ module _ {M : Type 1} (𝓤 : URA M) (H : Heap 𝓤) (A : Atoms 𝓤) (mem : Mem
     reading-said r = exE 𝓤 _ (λ ws. snd∗ 𝓤 (sem 𝓤 H A (lasts reading-number.ended (κ, tt) (x, tt) ws)) (fact 𝓤 (r ≡ numberOf (reading (x .now)))))
 
     pub reading-goes : Given 𝓤 H A → ent 𝓤 (sep 𝓤 (sep 𝓤 (A .lft κ q) (sem 𝓤 H A ftrue)) (sem 𝓤 H A (ShrSlice (named 0) κ u8 .own x (slice-vals x)))) (ReadingNumber .pre reading-to)
-    reading-goes W  = qed W ((‵ (flft κ q) ⊛ ‵ ftrue) ∷ ‵ (ShrSlice (named 0) κ u8 .own x (slice-vals x)) ∷ []) ∵ move ! (1 ∷ []) $ nothing ! $ move ! (1 ∷ 0 ∷ []) $ fjoin ! $ move ! (1 ∷ 0 ∷ []) $ join ! $ frame ! $ done !
+    reading-goes W = qed W ((‵ (flft κ q) ⊛ ‵ ftrue) ∷ ‵ (ShrSlice (named 0) κ u8 .own x (slice-vals x)) ∷ []) ∵ move ! (1 ∷ []) $ nothing ! $ move ! (1 ∷ 0 ∷ []) $ fjoin ! $ move ! (1 ∷ 0 ∷ []) $ join ! $ frame ! $ done !
 
 -- the changes kept that stand in the room
 module _ {M : Type 1} (𝓤 : URA M) (H : Heap 𝓤) (A : Atoms 𝓤) (mem : Memory → SProp 𝓤) (run : Routine → Fun 𝓤) where

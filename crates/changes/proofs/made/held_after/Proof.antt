@@ -1,15 +1,11 @@
 use Rattle.changes.specs.Looking.{heldAfter}
 use Rattle.changes.proofs.made.held_after.Statement.{statement}
 use Rattle.changes.proofs.made.held_after.Tie as tie
-use Rattle.changes.proofs.made.held_after.Reads as reads
-use Rattle.changes.proofs.made.held_after.Lts as lts
 
--- src/made.rt:29:1
 returns : tie.Need-returns
 unfolding heldAfter
 returns c = rw (c .if1 .taken)
 
--- src/made.rt:29:1
 returns-2 : tie.Need-returns-2
 unfolding heldAfter
 returns-2 c = rw (c .if1 .left)

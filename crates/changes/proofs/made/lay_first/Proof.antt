@@ -6,27 +6,20 @@ use lib.Seq.{take-length}
 use borrow.Author.Needs.{needs}
 use Rattle.changes.proofs.made.lay_first.Statement.{statement}
 use Rattle.changes.proofs.made.lay_first.Tie as tie
-use Rattle.changes.proofs.made.lay_first.Reads as reads
-use Rattle.changes.proofs.made.lay_first.Lts as lts
-use Rattle.bytes.proofs.copy.Reads as copy-reads
 
 -- a list laid into another
 laid : {E : Type 0} (src dst : List E) {out : List E} → out ≡ take (length src) src ++ drop (length src) dst → out ≡ src ++ drop (length src) dst
 laid src dst e = e ∙ ap (λ (l : List _). l ++ drop (length src) dst) (take-length src)
 
--- src/made.rt:60:9
 copy-requires : tie.Need-copy-requires
 copy-requires c κs = c .before .before .before .before .pre (c .before .if1 .taken)
 
--- src/made.rt:55:1
 same-length : tie.Need-same-length
 same-length c = search needs
 
--- src/made.rt:55:1
 returns : tie.Need-returns
 returns c = simp (eq-eqb _ _ (c .before .before .before .before .if1 .taken)) (laid (c .before .before .before .before .before .before .before .args .first .now) (c .before .before .before .before .before .before .before .args .out .now) (c .before .before .copy .ensures .1))
 
--- src/made.rt:55:1
 returns-2 : tie.Need-returns-2
 returns-2 c = simp (ne-eqb _ _ (c .if1 .left))
 

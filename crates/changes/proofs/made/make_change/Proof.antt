@@ -1,44 +1,33 @@
 use lib.Seq.{set-out}
 use Rattle.changes.specs.Versions.{made}
-use mathlib.Core.Path.{sym, _∙_, ap}
+use mathlib.Core.Path.{sym}
 use borrow.Author.Needs.{needs}
 use Rattle.changes.proofs.made.make_change.Statement.{statement}
 use Rattle.changes.proofs.made.make_change.Tie as tie
-use Rattle.changes.proofs.made.make_change.Reads as reads
-use Rattle.changes.proofs.made.make_change.Lts as lts
-use Rattle.changes.proofs.places.byte_named.Reads as byte-named-reads
 
--- src/made.rt:44:9
 byte-named-requires : tie.Need-byte-named-requires
 byte-named-requires c κs = search needs
 
--- src/made.rt:45:19
 enum-known-named : tie.Need-enum-known-named
 enum-known-named c = search needs
 
--- src/made.rt:46:9
 enum-told : tie.Need-enum-told
 enum-told c = search needs
 
--- src/made.rt:46:9
 returns : tie.Need-returns
 unfolding made
 returns c = rw (← c .before .before .byte-named .ensures, c .enum-told .given .1)
 
--- src/made.rt:50:9
 slice-write-out : tie.Need-slice-write-out
 slice-write-out c = search needs
 
--- src/made.rt:40:1
 same-length : tie.Need-same-length
 same-length c = search needs
 
--- src/made.rt:40:1
 returns-2 : tie.Need-returns-2
 unfolding made
 returns-2 c = rw (← c .before .before .before .before .byte-named .ensures, c .before .before .named .given .1)
 
--- src/made.rt:40:1
 returns-3 : tie.Need-returns-3
 unfolding made
 returns-3 c = rw (← c .before .before .before .before .byte-named .ensures, c .before .before .named .given .1) (sym (set-out _ _ _ (c .if1 .left)))

@@ -1,28 +1,20 @@
-use borrow.Author.Tests.{lt-ltb, le-ltb, eq-eqb, ne-eqb}
+use borrow.Author.Tests.{eq-eqb, ne-eqb}
 use borrow.Author.Needs.{needs}
 use Rattle.changes.proofs.numbers.adding_number.Statement.{statement}
 use Rattle.changes.proofs.numbers.adding_number.Tie as tie
-use Rattle.changes.proofs.numbers.adding_number.Reads as reads
-use Rattle.changes.proofs.numbers.adding_number.Lts as lts
-use Rattle.changes.proofs.numbers.room_full.Reads as room-full-reads
 
--- src/numbers.rt:83:9
 returns : tie.Need-returns
 returns c = simp (ne-eqb _ _ (c .if1 .taken))
 
--- src/numbers.rt:86:9
 returns-2 : tie.Need-returns-2
 returns-2 c = simp (eq-eqb _ _ (c .before .if1 .left), ne-eqb _ _ (c .if2 .taken))
 
--- src/numbers.rt:88:8
 room-full-requires : tie.Need-room-full-requires
 room-full-requires c κs = search needs
 
--- src/numbers.rt:79:1
 returns-3 : tie.Need-returns-3
 returns-3 c = simp (eq-eqb _ _ (c .before .before .before .if1 .left), eq-eqb _ _ (c .before .before .if2 .left)) (rw (← c .before .room-full .ensures, c .if3 .taken))
 
--- src/numbers.rt:79:1
 returns-4 : tie.Need-returns-4
 returns-4 c = simp (eq-eqb _ _ (c .before .before .before .if1 .left), eq-eqb _ _ (c .before .before .if2 .left)) (rw (← c .before .room-full .ensures, c .if3 .left))
 

@@ -1,16 +1,12 @@
 use Rattle.changes.specs.Adding.{countedOf}
-use borrow.Author.Tests.{lt-ltb, le-ltb, eq-eqb, ne-eqb}
+use borrow.Author.Tests.{lt-ltb, le-ltb}
 use Rattle.changes.proofs.numbers.counted.Statement.{statement}
 use Rattle.changes.proofs.numbers.counted.Tie as tie
-use Rattle.changes.proofs.numbers.counted.Reads as reads
-use Rattle.changes.proofs.numbers.counted.Lts as lts
 
--- src/numbers.rt:68:1
 returns : tie.Need-returns
 unfolding countedOf
 returns c = simp (lt-ltb _ _ (c .if1 .taken))
 
--- src/numbers.rt:68:1
 returns-2 : tie.Need-returns-2
 unfolding countedOf
 returns-2 c = simp (le-ltb _ _ (c .if1 .left))

@@ -2,23 +2,16 @@ use Rattle.changes.proofs.Rooms.{full-already, full-by-rest}
 use borrow.Author.Needs.{needs}
 use Rattle.changes.proofs.numbers.room_full.Statement.{statement}
 use Rattle.changes.proofs.numbers.room_full.Tie as tie
-use Rattle.changes.proofs.numbers.room_full.Reads as reads
-use Rattle.changes.proofs.numbers.room_full.Lts as lts
-use Rattle.changes.proofs.numbers.counted.Reads as counted-reads
 
--- src/numbers.rt:78:9
 counted-requires : tie.Need-counted-requires
 counted-requires c κs = search needs
 
--- src/numbers.rt:80:9
 returns : tie.Need-returns
 returns c = full-already _ _ _ _ (c .before .counted .ensures) (c .if1 .taken)
 
--- src/numbers.rt:82:5
 sub-result : tie.Need-sub-result
 sub-result c = search needs
 
--- src/numbers.rt:75:1
 returns-2 : tie.Need-returns-2
 returns-2 c = full-by-rest _ _ _ _ (c .before .counted .ensures) (c .if1 .left)
 

@@ -3,30 +3,22 @@ use borrow.Author.Tests.{lt-ltb, le-ltb, eq-eqb, ne-eqb}
 use borrow.Author.Needs.{needs}
 use Rattle.changes.proofs.numbers.version_number.Statement.{statement}
 use Rattle.changes.proofs.numbers.version_number.Tie as tie
-use Rattle.changes.proofs.numbers.version_number.Reads as reads
-use Rattle.changes.proofs.numbers.version_number.Lts as lts
-use Rattle.changes.proofs.numbers.reading_number.Reads as reading-number-reads
 
--- src/numbers.rt:102:9
 reading-number-requires : tie.Need-reading-number-requires
 reading-number-requires c κs = search needs
 
--- src/numbers.rt:104:9
 returns : tie.Need-returns
 unfolding versionNumber
 returns c = rw (← c .before .reading-number .ensures, ne-eqb _ _ (c .if1 .taken))
 
--- src/numbers.rt:107:9
 returns-2 : tie.Need-returns-2
 unfolding versionNumber
 returns-2 c = rw (← c .before .before .reading-number .ensures, eq-eqb _ _ (c .before .if1 .left), c .if2 .taken)
 
--- src/numbers.rt:99:1
 returns-3 : tie.Need-returns-3
 unfolding versionNumber
 returns-3 c = rw (← c .before .before .before .reading-number .ensures, eq-eqb _ _ (c .before .before .if1 .left), c .before .if2 .left, lt-ltb _ _ (c .if3 .taken))
 
--- src/numbers.rt:99:1
 returns-4 : tie.Need-returns-4
 unfolding versionNumber
 returns-4 c = rw (← c .before .before .before .reading-number .ensures, eq-eqb _ _ (c .before .before .if1 .left), c .before .if2 .left, le-ltb _ _ (c .if3 .left))

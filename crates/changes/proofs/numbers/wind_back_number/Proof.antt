@@ -1,14 +1,10 @@
-use borrow.Author.Tests.{lt-ltb, le-ltb, eq-eqb, ne-eqb}
+use borrow.Author.Tests.{lt-ltb, le-ltb}
 use Rattle.changes.proofs.numbers.wind_back_number.Statement.{statement}
 use Rattle.changes.proofs.numbers.wind_back_number.Tie as tie
-use Rattle.changes.proofs.numbers.wind_back_number.Reads as reads
-use Rattle.changes.proofs.numbers.wind_back_number.Lts as lts
 
--- src/numbers.rt:92:1
 returns : tie.Need-returns
 returns c = simp (lt-ltb _ _ (c .if1 .taken))
 
--- src/numbers.rt:92:1
 returns-2 : tie.Need-returns-2
 returns-2 c = simp (le-ltb _ _ (c .if1 .left))
 

@@ -1,57 +1,41 @@
 use Rattle.changes.specs.Change.{byteNamed}
-use borrow.Author.Tests.{lt-ltb, le-ltb, eq-eqb, ne-eqb}
+use borrow.Author.Tests.{lt-ltb, le-ltb}
 use borrow.Author.Needs.{needs}
 use Rattle.changes.proofs.places.byte_named.Statement.{statement}
 use Rattle.changes.proofs.places.byte_named.Tie as tie
-use Rattle.changes.proofs.places.byte_named.Reads as reads
-use Rattle.changes.proofs.places.byte_named.Lts as lts
-use Rattle.changes.proofs.places.part_bytes.Reads as part-bytes-reads
-use Rattle.changes.proofs.places.part_start.Reads as part-start-reads
-use Rattle.lent.proofs.u16_at.Reads as u16-at-reads
 
--- src/places.rt:51:8
 u16-at-requires : tie.Need-u16-at-requires
 u16-at-requires c κs = search needs
 
--- src/places.rt:51:8
 cast-if1 : tie.Need-cast-if1
 cast-if1 c = search needs
 
--- src/places.rt:52:9
 returns : tie.Need-returns
 unfolding byteNamed
 returns c = rw (← c .before .before .u16-at .ensures, le-ltb _ _ (c .if1 .taken))
 
--- src/places.rt:54:20
 cast-t7 : tie.Need-cast-t7
 cast-t7 c = search needs
 
--- src/places.rt:55:8
 part-bytes-requires : tie.Need-part-bytes-requires
 part-bytes-requires c κs = search needs
 
--- src/places.rt:55:40
 cast-if2 : tie.Need-cast-if2
 cast-if2 c = search needs
 
--- src/places.rt:56:9
 returns-2 : tie.Need-returns-2
 unfolding byteNamed
 returns-2 c = rw (← c .before .before .before .before .before .before .u16-at .ensures, lt-ltb _ _ (c .before .before .before .before .if1 .left), ← c .before .before .part-bytes .ensures, le-ltb _ _ (c .if2 .taken))
 
--- src/places.rt:58:15
 part-start-requires : tie.Need-part-start-requires
 part-start-requires c κs = search needs
 
--- src/places.rt:58:46
 cast-t9 : tie.Need-cast-t9
 cast-t9 c = search needs
 
--- src/places.rt:58:15
 add-t10 : tie.Need-add-t10
 add-t10 c = search needs
 
--- src/places.rt:47:1
 returns-3 : tie.Need-returns-3
 unfolding byteNamed
 returns-3 c = rw (← c .before .before .before .before .before .before .before .before .u16-at .ensures, lt-ltb _ _ (c .before .before .before .before .before .before .if1 .left), ← c .before .before .before .before .part-bytes .ensures, lt-ltb _ _ (c .before .before .if2 .left), ← c .before .part-start .ensures .0)

@@ -1,52 +1,37 @@
 use Rattle.picture.proofs.Laws.{all-bytes-same}
 use Rattle.changes.proofs.Named.{record-first, record-size}
 use Rattle.changes.specs.Change.{partBytes}
-use borrow.Author.Tests.{lt-ltb, le-ltb, eq-eqb, ne-eqb}
+use borrow.Author.Tests.{eq-eqb, ne-eqb}
 use borrow.Author.Needs.{needs}
 use Rattle.changes.proofs.places.part_bytes.Statement.{statement}
 use Rattle.changes.proofs.places.part_bytes.Tie as tie
-use Rattle.changes.proofs.places.part_bytes.Reads as reads
-use Rattle.changes.proofs.places.part_bytes.Lts as lts
-use Rattle.picture.proofs.all_bytes.Reads as all-bytes-reads
-use Rattle.registers.proofs.edition_of.Reads as edition-of-reads
-use Rattle.registers.proofs.record_at.Reads as record-at-reads
-use Rattle.registers.proofs.sizes_of.Reads as sizes-of-reads
 
--- src/places.rt:25:13
 edition-of-requires : tie.Need-edition-of-requires
 edition-of-requires c κs = search needs
 
--- src/places.rt:26:17
 record-at-requires : tie.Need-record-at-requires
 record-at-requires c κs = search needs
 
--- src/places.rt:26:41
 record-at-requires-2 : tie.Need-record-at-requires-2
 record-at-requires-2 c κs = search needs
 
--- src/places.rt:26:17
 sub-result : tie.Need-sub-result
 sub-result c = rw (c .record-at2 .ensures .0, c .before .record-at .ensures .0) (record-first _)
 
--- src/places.rt:26:9
 returns : tie.Need-returns
 unfolding partBytes
 returns c = rw (eq-eqb _ _ (c .before .before .before .if1 .taken), c .before .record-at .ensures .0, c .record-at2 .ensures .0, c .before .before .edition-of .ensures) (record-size _)
 
--- src/places.rt:29:26
 sizes-of-requires : tie.Need-sizes-of-requires
 sizes-of-requires c κs = search needs
 
--- src/places.rt:29:9
 all-bytes-requires : tie.Need-all-bytes-requires
 all-bytes-requires c κs = search needs
 
--- src/places.rt:29:9
 returns-2 : tie.Need-returns-2
 unfolding partBytes
 returns-2 c = rw (ne-eqb _ _ (c .before .before .before .if1 .left), eq-eqb _ _ (c .before .before .if2 .taken), c .all-bytes .ensures .0) (all-bytes-same _ _ (c .before .sizes-of .ensures))
 
--- src/places.rt:21:1
 returns-3 : tie.Need-returns-3
 unfolding partBytes
 returns-3 c = rw (ne-eqb _ _ (c .before .if1 .left), ne-eqb _ _ (c .if2 .left))

@@ -1,7 +1,7 @@
 -- `history::adding::number_of_adding` meets its contract: a walk of its MIR, by hand. A turn reads a change of the run and looks for its byte in the first picture, in the
 -- changes kept and in those of the run before it. Each slice stands with its token in front of the locals, and goes to the head for a call.
 -- Assumes nothing.
-use mathlib.Core.Path.{_≡_, refl, sym, _∙_, subst}
+use mathlib.Core.Path.{_≡_, refl, _∙_, subst}
 use Prim.Native.Nat.{ℕ, zero-le, _+_, _-_, _≤_, _<_, _^_}
 use native.Mathlib.Nat.{le-antisymm, lt-of-le-of-lt, le-of-lt}
 use native.Mathlib.Decide.{decLt}
@@ -25,11 +25,10 @@ use prog.Wp.{Heap, Env, Out, Wp, WpFn, Tables, afterTurn, afterBlock, afterSeq, 
 use ghost.Atoms.{Atoms}
 use contract.Monad.{Fun}
 use contract.Running.{givenOf, tables, tablesOf}
-use types.Kit.{Given, Item, ‵, _⊛_, ⋆, _$_, _∵_, !, Sq, runs, anyQ, atRet, qed, by, move, keep, drop, split, join, rewrite, fsplit, fjoin, suffices, frame, done}
+use types.Kit.{Given, Item, ‵, _⊛_, ⋆, _$_, _∵_, !, Sq, runs, anyQ, atRet, qed, by, move, drop, split, join, rewrite, fsplit, fjoin, suffices, frame, done}
 use types.Part.{whole, sub, look-in}
 use types.Run.{look, store, init, forget, stop, fld, from, load, lit, of-opd, bin, and-then, no-more, assigns, assigns-last, land, first, blocks, stays, leaves-loop, loops, again, Below, exec, returns, enter, alloc1, alloc0, params1, pass1, pass0, free1, free0}
 use sound.WpLaws.{FmC, fmOf, WpFn-mono}
-use denote.Exit.{yes as kept-so}
 use denote.RattleType.{owns}
 use denote.Laws.{Is}
 use denote.Memory.{pointee}
@@ -70,14 +69,43 @@ use Rattle.changes.proofs.adding_number.Met as adding-thm
 use Rattle.history.proofs.Machine.{R, mach, tells, typed}
 use Rattle.history.proofs.Told.{calls-plain, calls-slice}
 use Rattle.history.proofs.Called.{
-  RecordAt, record-to, record-goes, record-said, ByteBefore, before-to, before-goes, before-said, ReadingNumber, reading-to, reading-goes, reading-said, HeldIn, held-to, held-goes, held-said,
-  AsFar, far-to, far-goes, far-said, FirstByte, first-to, first-goes, first-said, LowerNumber, lower-to, lower-goes, lower-said, AddingNumber, adding-to, adding-goes, adding-said,
+  RecordAt,
+  record-to,
+  record-goes,
+  record-said,
+  ByteBefore,
+  before-to,
+  before-goes,
+  before-said,
+  ReadingNumber,
+  reading-to,
+  reading-goes,
+  reading-said,
+  HeldIn,
+  held-to,
+  held-goes,
+  held-said,
+  AsFar,
+  far-to,
+  far-goes,
+  far-said,
+  FirstByte,
+  first-to,
+  first-goes,
+  first-said,
+  LowerNumber,
+  lower-to,
+  lower-goes,
+  lower-said,
+  AddingNumber,
+  adding-to,
+  adding-goes,
+  adding-said,
 }
 use Rattle.history.proofs.records.record_at.Symbol as record-def
 use Rattle.history.proofs.records.record_at.Met as record-thm
 use Rattle.history.proofs.looking.byte_before.Symbol as before-def
 use Rattle.history.proofs.looking.byte_before.Met as before-thm
-use Rattle.history.proofs.adding.number_of_adding.Key.{name as #key}
 use Rattle.history.proofs.adding.number_of_adding as f
 use Rattle.history.proofs.adding.number_of_adding.Statement as stated
 use Rattle.history.proofs.adding.number_of_adding.Code as code

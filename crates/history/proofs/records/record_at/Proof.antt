@@ -1,7 +1,7 @@
 -- `history::records::record_at` meets its contract: a walk of its MIR, by hand. The place of `changes[i]` is computed, the slice is looked into, and
 -- the record is read there.
 -- Assumes nothing.
-use mathlib.Core.Path.{_≡_, refl, sym}
+use mathlib.Core.Path.{refl, sym}
 use Prim.Native.Nat.{ℕ, _*_, _<_, _^_}
 use native.Mathlib.Omega.{arith}
 use mathlib.Core.List.{List, [], _∷_}
@@ -41,7 +41,6 @@ use Rattle.changes.specs.declared.Change.{Change}
 use Rattle.changes.specs.Versions.{noChange, changeAt}
 use Rattle.changes.proofs.Change.Laws as T′
 use Rattle.history.proofs.Machine.{R, mach, vals, tells, makes, copies, typed}
-use Rattle.history.proofs.records.record_at.Key.{name as #key}
 use Rattle.history.proofs.records.record_at as f
 use Rattle.history.proofs.records.record_at.Statement as stated
 use Rattle.history.proofs.records.record_at.Code as code

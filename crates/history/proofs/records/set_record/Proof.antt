@@ -1,7 +1,7 @@
 -- `history::records::set_record` meets its contract: a walk of its MIR, by hand. The place of `room[i]` is computed, the borrow is opened, and the
 -- record is stored there.
 -- Assumes nothing.
-use mathlib.Core.Path.{_≡_, refl, sym, ap, subst}
+use mathlib.Core.Path.{refl, sym, ap, subst}
 use Prim.Native.Nat.{ℕ, _*_, _<_, _^_}
 use native.Mathlib.Omega.{arith}
 use mathlib.Core.List.{List, [], _∷_}
@@ -43,7 +43,6 @@ use Rattle.changes.specs.declared.Change.{Change}
 use Rattle.changes.specs.Versions.{noChange}
 use Rattle.changes.proofs.Change.Laws as T′
 use Rattle.history.proofs.Machine.{R, mach, vals, tells, makes, typed}
-use Rattle.history.proofs.records.set_record.Key.{name as #key}
 use Rattle.history.proofs.records.set_record as f
 use Rattle.history.proofs.records.set_record.Statement as stated
 use Rattle.history.proofs.records.set_record.Code as code
