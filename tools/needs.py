@@ -115,7 +115,7 @@ def used(name, text):
 
 def tidied(text):
     text = re.sub(r"(?m)^-- src/\S+:\d+:\d+\n", "", text)
-    for found in re.finditer(r"(?m)^use \S+ as (\S+)\n", text):
+    for found in re.finditer(r"(?m)^use [^\s{]+ as (\S+)\n", text):
         rest = text.replace(found.group(0), "")
         if found.group(1) != "tie" and not re.search(rf"(?<![\w·.-]){re.escape(found.group(1))}\.", rest):
             text = rest

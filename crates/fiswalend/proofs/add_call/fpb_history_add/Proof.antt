@@ -55,6 +55,7 @@ use Rattle.history.proofs.number_of_adding.Met as adding-thm
 use Rattle.history.proofs.stand as stand
 use Rattle.history.proofs.stand.Symbol as stand-def
 use Rattle.history.proofs.stand.Met as stand-thm
+use Rattle.fiswalend.proofs.add_call.fpb_history_add.Key.{name as #key}
 use Rattle.fiswalend.proofs.add_call.fpb_history_add as f
 use Rattle.fiswalend.proofs.add_call.fpb_history_add.Statement as stated
 use Rattle.fiswalend.proofs.add_call.fpb_history_add.Code as code

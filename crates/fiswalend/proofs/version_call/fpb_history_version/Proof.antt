@@ -30,6 +30,7 @@ use types.Kit.{Given, Item, ‵, _⊛_, ⋆, _$_, _∵_, !, Sq, runs, anyQ, atRe
 use types.Part.{agg, whole, sub, look-in}
 use types.Run.{look, store, init, forget, stop, hop, fld, from, load, addr, lit, of-opd, bin, and-then, no-more, assigns, assigns-last, land, first, blocks, stays, leaves-loop, loops, again, Below, exec, returns, enter, alloc1, alloc0, params1, pass1, pass0, free1, free0}
 use sound.WpLaws.{fmOf, WpFn-mono}
+use denote.Exit.{yes as kept}
 use denote.RattleType.{owns}
 use denote.Laws.{Is}
 use denote.Memory.{pointee}
@@ -67,6 +68,7 @@ use Rattle.history.proofs.Called.{RecordAt, record-to, record-goes, record-said
 use Rattle.changes.proofs.Turns.{laid, no-refusal, after-all}
 use Rattle.history.proofs.Lent.{buffer, Lent, calls-lent}
 use Rattle.fiswalend.proofs.VersionCalled.{VersionNumber, number-to, number-goes, number-said, ChangesIn, changes-to, changes-goes, changes-said, LayFirst, lay-to, lay-goes, MakeChange, make-to, make-goes}
+use Rattle.fiswalend.proofs.version_call.fpb_history_version.Key.{name as #key}
 use Rattle.fiswalend.proofs.version_call.fpb_history_version as f
 use Rattle.fiswalend.proofs.version_call.fpb_history_version.Statement as stated
 use Rattle.fiswalend.proofs.version_call.fpb_history_version.Code as code

@@ -29,6 +29,7 @@ use types.Kit.{Given, Item, ‵, _⊛_, ⋆, _$_, _∵_, !, Sq, runs, anyQ, atRe
 use types.Part.{whole, sub, look-in}
 use types.Run.{look, store, init, forget, stop, fld, from, load, lit, of-opd, bin, and-then, no-more, assigns, assigns-last, land, first, blocks, stays, leaves-loop, loops, again, Below, exec, returns, enter, alloc1, alloc0, params1, pass1, pass0, free1, free0}
 use sound.WpLaws.{FmC, fmOf, WpFn-mono}
+use denote.Exit.{yes as kept-so}
 use denote.RattleType.{owns}
 use denote.Laws.{Is}
 use denote.Memory.{pointee}
@@ -106,6 +107,7 @@ use Rattle.history.proofs.records.record_at.Symbol as record-def
 use Rattle.history.proofs.records.record_at.Met as record-thm
 use Rattle.history.proofs.looking.byte_before.Symbol as before-def
 use Rattle.history.proofs.looking.byte_before.Met as before-thm
+use Rattle.history.proofs.adding.number_of_adding.Key.{name as #key}
 use Rattle.history.proofs.adding.number_of_adding as f
 use Rattle.history.proofs.adding.number_of_adding.Statement as stated
 use Rattle.history.proofs.adding.number_of_adding.Code as code

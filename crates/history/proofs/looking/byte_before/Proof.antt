@@ -28,6 +28,7 @@ use contract.Running.{givenOf, tables, tablesOf}
 use types.Kit.{Given, Item, ‵, _⊛_, ⋆, _$_, _∵_, !, Sq, runs, anyQ, atRet, qed, by, move, drop, rewrite, fsplit, fjoin, suffices, frame, done}
 use types.Run.{look, store, init, forget, stop, from, load, lit, of-opd, bin, and-then, no-more, assigns, assigns-last, land, first, blocks, stays, leaves-loop, loops, again, Below, exec, returns, enter, alloc1, alloc0, params1, pass1, pass0, free1, free0}
 use sound.WpLaws.{fmOf, WpFn-mono}
+use denote.Exit.{yes as kept}
 use denote.RattleType.{owns}
 use denote.Laws.{Is}
 use denote.Memory.{pointee}
@@ -53,6 +54,7 @@ use Rattle.history.proofs.Told.{calls-plain, calls-slice}
 use Rattle.history.proofs.Called.{RecordAt, record-to, record-goes, record-said, HeldAfter, after-to, after-goes, after-said}
 use Rattle.history.proofs.records.record_at.Symbol as record-def
 use Rattle.history.proofs.records.record_at.Met as record-thm
+use Rattle.history.proofs.looking.byte_before.Key.{name as #key}
 use Rattle.history.proofs.looking.byte_before as f
 use Rattle.history.proofs.looking.byte_before.Statement as stated
 use Rattle.history.proofs.looking.byte_before.Code as code

@@ -41,6 +41,7 @@ use Rattle.changes.specs.declared.Change.{Change}
 use Rattle.changes.specs.Versions.{noChange, changeAt}
 use Rattle.changes.proofs.Change.Laws as T′
 use Rattle.history.proofs.Machine.{R, mach, vals, tells, makes, copies, typed}
+use Rattle.history.proofs.records.record_at.Key.{name as #key}
 use Rattle.history.proofs.records.record_at as f
 use Rattle.history.proofs.records.record_at.Statement as stated
 use Rattle.history.proofs.records.record_at.Code as code

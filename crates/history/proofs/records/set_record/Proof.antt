@@ -43,6 +43,7 @@ use Rattle.changes.specs.declared.Change.{Change}
 use Rattle.changes.specs.Versions.{noChange}
 use Rattle.changes.proofs.Change.Laws as T′
 use Rattle.history.proofs.Machine.{R, mach, vals, tells, makes, typed}
+use Rattle.history.proofs.records.set_record.Key.{name as #key}
 use Rattle.history.proofs.records.set_record as f
 use Rattle.history.proofs.records.set_record.Statement as stated
 use Rattle.history.proofs.records.set_record.Code as code

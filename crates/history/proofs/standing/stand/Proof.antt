@@ -30,6 +30,7 @@ use types.Part.{agg, whole, sub, look-in}
 use types.Run.{look, store, init, forget, stop, hop, fld, from, load, addr, lit, unit-lit, of-opd, bin, and-then, no-more, assigns, assigns-last, land, first, blocks, stays, leaves-loop, loops, again, Below, exec, returns, enter, alloc1, alloc0, params1, pass1, pass0, free1, free0}
 use types.Tokens.{lft-new, lft-end}
 use sound.WpLaws.{FmC, fmOf, WpFn-mono}
+use denote.Exit.{yes as kept-so}
 use denote.RattleType.{owns}
 use denote.Laws.{Is, shows}
 use denote.Memory.{pointee}
@@ -65,6 +66,7 @@ use Rattle.history.proofs.records.record_at.Met as record-thm
 use Rattle.history.proofs.records.set_record as set-record
 use Rattle.history.proofs.records.set_record.Symbol as set-def
 use Rattle.history.proofs.records.set_record.Met as set-thm
+use Rattle.history.proofs.standing.stand.Key.{name as #key}
 use Rattle.history.proofs.standing.stand as f
 use Rattle.history.proofs.standing.stand.Statement as stated
 use Rattle.history.proofs.standing.stand.Code as code
