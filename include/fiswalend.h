@@ -210,8 +210,8 @@ uint32_t fpb_convert(const uint8_t *picture, size_t picture_len, uint32_t port, 
  * of a version say what it is, and 1 to 10 where it does not read. The first picture, the run and, for a version, the room are
  * only read. A refusal writes nothing.
  *
- * Adds a run of changes, whole or not at all: returns 0, the run stands in the room behind the `kept` first ones, and *now_kept is
- * kept + run_len. Else a number, looked for in this order, each over the whole run before the next: 1 to 10 of the first picture;
+ * Adds a run of changes, whole or not at all: returns 0, the run stands in the room behind the `kept` first ones, all other records
+ * of the room are as they were, and *now_kept is kept + run_len. Else a number, looked for in this order, each over the whole run before the next: 1 to 10 of the first picture;
  * 37 for a change that names no byte of it, as one in the vectors of a port that has none; 38 for an old byte that is not what the
  * version just before that change holds, so that a change may build on another of the same run; 39 if kept + run_len is above
  * room_len. A run of no changes is added too. If kept is above room_len, 37 and 38 speak of all that the room holds, and then it is
@@ -222,8 +222,9 @@ uint32_t fpb_history_add(const uint8_t *first, size_t first_len, struct fpb_chan
 /* Writes version k to the beginning of `out`, first_len bytes, keeps the rest of it and returns 0. Else a number: 1 to 10 of the
  * first picture; 40 if k is above kept, or kept above room_len; 23 if out_len is under first_len.
  *
- * The history says what happened as long as its room is written by fpb_history_add alone. Any other room is answered all the same:
- * a record of it that names no byte changes nothing, and of any other the new byte is put in, whatever its old byte says. */
+ * The history says what happened as long as the first picture stays as it is, the room is written by fpb_history_add alone, and
+ * `kept` is what the last call that adds or winds back and returned 0 wrote, 0 at first. Anything else is answered all the same: a
+ * record that names no byte changes nothing, and of any other the new byte is put in, whatever its old byte says. */
 uint32_t fpb_history_version(const uint8_t *first, size_t first_len, const struct fpb_change *room, size_t room_len, uint8_t *out,
                              size_t out_len, uint32_t kept, uint32_t k);
 
@@ -282,7 +283,7 @@ static inline const char *fpb_number_text(uint32_t number)
         "a change names a port or a byte that is not in the first picture",
         "a change's old byte is not what the version before it holds",
         "the room has no place for the changes of the run",
-        "a version was asked for that is not kept",
+        "a version was asked for that is not kept, or more changes are kept than the room has records",
     };
     return number < sizeof texts / sizeof texts[0] && texts[number] != NULL ? texts[number] : "not a number of this judge";
 }

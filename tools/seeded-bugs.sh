@@ -1,33 +1,68 @@
 #!/usr/bin/env bash
-# seeded-bugs.sh [SEED [PICTURES]]: small wrong edits of the second program, one at a time in a copy, each held against the
-# answers of the proved judge to the same batches, or the texts of the product's programs for the same pictures and trials. Prints
-# a row for each; the status is 0 only where every edit is found.
+# seeded-bugs.sh [SEED [PICTURES [PART]]]: small wrong edits of the second program, one at a time in a copy, each held against the
+# answers of the proved judge to the same batches, those of the proved calls of a settings history to the same stories, or the texts
+# of the product's programs for the same pictures and trials. There are as many random stories as PICTURES; PART is answers, stories
+# or texts where only those are wanted. Prints a row for each; the status is 0 only where every edit is found.
 set -u
 case "${1:-}" in -h | --help) sed -n '2,/^set /s/^# //p' "$0"; exit ;; esac
 cd "$(dirname "$(readlink -f "$0")")/.." || exit 2
 self=seeded-bugs.sh
 . tools/build.sh
-seed=${1:-1} pictures=${2:-400}
+. tools/second.sh
+seed=${1:-1} pictures=${2:-400} part=${3:-all}
 work=$PWD/target/seeded-bugs
+case $part in
+all) needed=(batch fiswalend.a explain tree) ;;
+answers) needed=(batch) ;;
+stories) needed=(fiswalend.a) ;;
+texts) needed=(explain tree) ;;
+*) echo "$self: there is no part $part" >&2; exit 2 ;;
+esac
 rm -rf "$work"
 mkdir -p "$work"
-for program in batch explain tree; do build "$program" || exit 1; done
-(cd second && cargo build --release --offline --quiet) || exit 1
-second/target/release/second batch >"$work/hand"
-second/target/release/second generate "$seed" "$pictures" >"$work/random"
-for batch in hand random; do
-    run_built batch <"$work/$batch" >"$work/$batch.judge"
-    second/target/release/second answers <"$work/$batch" | cmp -s - "$work/$batch.judge" || { echo "the two differ without an edit"; exit 1; }
-done
-echo "$(wc -l <"$work/hand.judge") hand-written answers, $(wc -l <"$work/random.judge") random ones (seed $seed, $pictures pictures)"
-echo "| file | what is wrong | found | answers that differ | in hand-written calls | in random ones |"
-echo "|---|---|---|---|---|---|"
+for name in "${needed[@]}"; do build "$name" || exit 1; done
+build_second || exit 1
 bugs=0 found=0
 
-# differing BATCH: how many answers of the edited program are not the judge's, and the calls that they answer
+# wanted PART: whether it is run
+wanted() {
+    [ "$part" = all ] || [ "$part" = "$1" ]
+}
+
+# ask WORD COMMAND..: keeps what the command answers to the hand-written and the random input of the second program's WORD, which
+# answers the same; the input is hand.WORD and random.WORD
+ask() {
+    local word=$1 input
+    shift
+    for input in "$work/hand.$word" "$work/random.$word"; do
+        "$@" <"$input" >"$input.judge"
+        "$second" "$word" <"$input" | cmp -s - "$input.judge" || { echo "the two differ without an edit: $input"; exit 1; }
+    done
+}
+
+if wanted answers; then
+    "$second" batch >"$work/hand.answers"
+    "$second" generate "$seed" "$pictures" >"$work/random.answers"
+    ask answers run_built batch
+    echo "$(wc -l <"$work/hand.answers.judge") hand-written answers, $(wc -l <"$work/random.answers.judge") random ones (seed $seed, $pictures pictures)"
+fi
+if wanted stories; then
+    build_histories "$work/histories" >"$work/log" 2>&1 || { cat "$work/log"; exit 1; }
+    "$second" story-cases >"$work/hand.story-answers"
+    "$second" stories "$seed" "$pictures" >"$work/random.story-answers"
+    ask story-answers run_x86 "$work/histories"
+    echo "$(wc -l <"$work/hand.story-answers.judge") steps of hand-written stories, $(wc -l <"$work/random.story-answers.judge") of random ones (seed $seed, $pictures stories)"
+fi
+if ! [ "$part" = texts ]; then
+    echo "| file | what is wrong | found | answers that differ | in hand-written calls | in random ones |"
+    echo "|---|---|---|---|---|---|"
+fi
+
+# differing WORD INPUT: how many answers of the edited program are not those of the proved calls
 differing() {
-    "$work/target/release/second" answers <"$work/$1" >"$work/$1.edited" 2>/dev/null || { echo "stopped"; return; }
-    awk 'NR == FNR { wanted[FNR] = $0; next } wanted[FNR] != $0 { n++ } END { print n + 0 }' "$work/$1.judge" "$work/$1.edited"
+    local input=$work/$2.$1
+    "$work/target/release/second" "$1" <"$input" >"$input.edited" 2>/dev/null || { echo "stopped"; return; }
+    awk 'NR == FNR { wanted[FNR] = $0; next } wanted[FNR] != $0 { n++ } END { print n + 0 }' "$input.judge" "$input.edited"
 }
 
 # sow FILE OLD NEW: builds the second program with one text of a file changed
@@ -44,13 +79,23 @@ sow() {
     (cd "$work/copy" && CARGO_INCREMENTAL=1 CARGO_TARGET_DIR=$work/target cargo build --release --offline --quiet 2>"$work/log") || { cat "$work/log"; exit 1; }
 }
 
-# bug FILE WORDS OLD NEW: one that answers must show
-bug() {
+# row WORD FILE WORDS OLD NEW: one that the answers of the second program's WORD must show
+row() {
     local hand random verdict=no
-    sow "$1" "$3" "$4"
-    hand=$(differing hand) random=$(differing random)
+    sow "$2" "$4" "$5"
+    hand=$(differing "$1" hand) random=$(differing "$1" random)
     if [ "$hand" != 0 ] || [ "$random" != 0 ]; then verdict=yes found=$((found + 1)); fi
-    echo "| $1 | $2 | $verdict | $((${hand/stopped/1} + ${random/stopped/1})) | $hand | $random |"
+    echo "| $2 | $3 | $verdict | $((${hand/stopped/1} + ${random/stopped/1})) | $hand | $random |"
+}
+
+# bug FILE WORDS OLD NEW: one that answers to batches must show
+bug() {
+    if wanted answers; then row answers "$@"; fi
+}
+
+# story_bug FILE WORDS OLD NEW: one that answers to stories must show
+story_bug() {
+    if wanted stories; then row story-answers "$@"; fi
 }
 
 # text PICTURE COMMAND..: what it prints of a picture, as one line
@@ -74,6 +119,7 @@ texts() {
 # text_bug FILE WORDS OLD NEW: one that texts must show
 text_bug() {
     local differ
+    wanted texts || return 0
     sow "$1" "$3" "$4"
     differ=$(texts "$work/target/release/second" | diff - "$work/texts.judge" | grep -c '^<')
     [ "$differ" -eq 0 ] || found=$((found + 1))
@@ -256,14 +302,79 @@ bug picture.rs "bytes 58 and 59 join number 9 and not 8" $'|record| record.setti
 bug patch.rs "P2P Request Redirect cleared at the ports of a patch" 'let to = record.vectors_start()' 'let edition = crate::picture::edition_of(picture).unwrap(); if edition.record_size() > 56 { patched[edition.record_start(entry.port) + 56] &= !4; } let to = record.vectors_start()'
 bug patch.rs "vectors lie in the picture as in edition 1" 'None => (Slice::Picture, record.vectors_start() as usize)' 'None => (Slice::Picture, record.vectors_start() as usize - (crate::picture::edition_of(picture).unwrap().record_size() - 56) * records.len())'
 
-second/target/release/second pictures "$seed" 150 "$work/pictures" || exit 1
-second/target/release/second patches "$seed" 60 "$work/patches" || exit 1
-texts run_built >"$work/texts.judge"
-texts second/target/release/second | cmp -s - "$work/texts.judge" || { echo "the texts differ without an edit"; exit 1; }
-echo
-echo "$(wc -l <"$work/texts.judge") texts of 150 pictures and 60 trials (seed $seed)"
-echo "| file | what is wrong | found | texts that differ |"
-echo "|---|---|---|---|"
+# edits of a run that is refused stand where the number is given back, so that the edited program goes on
+story_bug history.rs "an old byte compared with the first picture" 'if before[place] != change.old {' 'if first[place] != change.old {'
+story_bug history.rs "an old byte compared with the version kept, not with the change before it in the run" 'before[place] = change.new;' ''
+story_bug history.rs "a change that changes nothing refused" 'before[place] != change.old' 'change.new == change.old || before[place] != change.old'
+story_bug history.rs "37 and 38 change by change" $'if run.iter().any(|change| layout.place(change).is_none()) {\n        return Some(37);\n    }\n    let mut before = changed(first, &layout, held(room, kept));\n    for change in run {\n        let place = layout.place(change).expect("number 37 is behind us");' $'let mut before = changed(first, &layout, held(room, kept));\n    for change in run {\n        let Some(place) = layout.place(change) else { return Some(37) };'
+story_bug history.rs "39 before 38" 'let mut before = changed(' 'if kept as u64 + run.len() as u64 > room.len() as u64 { return Some(39); } let mut before = changed('
+story_bug history.rs "39 before 37" 'if run.iter().any(|change| layout' 'if kept as u64 + run.len() as u64 > room.len() as u64 { return Some(39); } if run.iter().any(|change| layout'
+story_bug history.rs "39 before 1 to 10" $'let layout = match Layout::of(first) {\n        Ok(layout) => layout,\n        Err(number) => return Some(number),' $'if kept as u64 + run.len() as u64 > room.len() as u64 { return Some(39); } let layout = match Layout::of(first) {\n        Ok(layout) => layout,\n        Err(number) => return Some(number),'
+story_bug history.rs "a run that fills the room exactly refused" '> room.len() as u64).then_some(39)' '>= room.len() as u64).then_some(39)'
+story_bug history.rs "a run one too long for the room accepted" 'Some(number) => number,' 'Some(39) if kept as usize + run.len() == room.len() + 1 => { for (at, change) in (kept as usize..room.len()).zip(run) { room[at] = *change; } *now_kept = kept + run.len() as u32; 0 } Some(number) => number,'
+story_bug history.rs "kept and run summed up in 32 bits" 'Some(number) => number,' 'Some(39) if kept.wrapping_add(run.len() as u32) as usize <= room.len() => { *now_kept = kept.wrapping_add(run.len() as u32); 0 } Some(number) => number,'
+story_bug history.rs "an empty run accepted with more kept than the room holds" 'Some(number) => number,' 'Some(39) if run.is_empty() => { *now_kept = kept; 0 } Some(number) => number,'
+story_bug history.rs "as much of a run added as the room takes" 'Some(number) => number,' 'Some(39) if (kept as usize) < room.len() => { let (start, most) = (kept as usize, room.len() - kept as usize); room[start..].copy_from_slice(&run[..most]); *now_kept = room.len() as u32; 0 } Some(number) => number,'
+story_bug history.rs "39 after the room is written" 'Some(number) => number,' 'Some(39) => { for (at, change) in (kept as usize..room.len()).zip(run) { room[at] = *change; } 39 } Some(number) => number,'
+story_bug history.rs "38 after the room is written" 'Some(number) => number,' 'Some(38) => { for (at, change) in (kept as usize..room.len()).zip(run) { room[at] = *change; } 38 } Some(number) => number,'
+story_bug history.rs "a refusal writes now_kept" 'Some(number) => number,' 'Some(number) => { *now_kept = kept; number }'
+story_bug history.rs "a run written at the start of the room" 'let start = kept as usize;' 'let start = 0;'
+story_bug history.rs "a run refused after which the version does not read" '.then_some(39)' '.then_some(39).or(Layout::of(&before).err())'
+story_bug history.rs "dropped changes count for 38" '&room[..room.len().min(kept as usize)]' 'room'
+story_bug history.rs "more kept than the room holds taken for none" '&room[..room.len().min(kept as usize)]' 'room.get(..kept as usize).unwrap_or(&[])'
+story_bug history.rs "37 for a kept record that names no byte" 'if run.iter().any(' 'if held(room, kept).iter().chain(run).any('
+story_bug history.rs "a kept record that names no byte ends the version" $'if let Some(place) = layout.place(change) {\n            version[place] = change.new;\n        }' $'let Some(place) = layout.place(change) else { break };\n        version[place] = change.new;'
+story_bug history.rs "a kept record whose old byte is not met changes nothing" 'if let Some(place) = layout.place(change) {' 'if let Some(place) = layout.place(change).filter(|&place| version[place] == change.old) {'
+story_bug history.rs "a change made with the old byte" 'version[place] = change.new;' 'version[place] = change.old;'
+story_bug history.rs "of two changes of a byte the older counts" 'for change in changes {' 'for change in changes.iter().rev() {'
+story_bug history.rs "a version one change short" '&room[..k as usize]' '&room[..(k as usize).saturating_sub(1)]'
+story_bug history.rs "a version one change too long" '&room[..k as usize]' '&room[..(k as usize + 1).min(room.len())]'
+story_bug history.rs "a version that does not read refused" 'out[..first.len()].copy_from_slice(&changed(first, &layout, &room[..k as usize]));' 'let whole = changed(first, &layout, &room[..k as usize]); if let Err(number) = Layout::of(&whole) { return number; } out[..first.len()].copy_from_slice(&whole);'
+story_bug history.rs "40 for the last version" 'if k > kept || kept' 'if k >= kept || kept'
+story_bug history.rs "versions above the last read back as far as the room goes" 'if k > kept || kept' 'if k as usize > room.len() || kept'
+story_bug history.rs "40 for a full room" 'kept as usize > room.len() {' 'kept as usize >= room.len() {'
+story_bug history.rs "no 40 for more kept than the room holds" 'kept as usize > room.len() {' 'k as usize > room.len() {'
+story_bug history.rs "40 before 1 to 10" $'let layout = match Layout::of(first) {\n        Ok(layout) => layout,\n        Err(number) => return number,' $'if k > kept || kept as usize > room.len() { return 40; } let layout = match Layout::of(first) {\n        Ok(layout) => layout,\n        Err(number) => return number,'
+story_bug history.rs "23 before 40" 'if k > kept || kept' 'if out.len() < first.len() { return 23; } if k > kept || kept'
+story_bug history.rs "23 for a buffer just long enough" 'out.len() < first.len()' 'out.len() <= first.len()'
+story_bug history.rs "the rest of a longer buffer cleared" 'out[..first.len()].copy_from_slice(' 'out[first.len()..].fill(0); out[..first.len()].copy_from_slice('
+story_bug history.rs "a short buffer filled as far as it goes" 'return 23;' 'out.copy_from_slice(&changed(first, &layout, &room[..k as usize])[..out.len()]); return 23;'
+story_bug history.rs "winding back to the last version refused" 'if k > kept {' 'if k >= kept {'
+story_bug history.rs "winding back to one above the last accepted" 'if k > kept {' 'if k > kept.saturating_add(1) {'
+story_bug history.rs "winding back keeps the old number" '*now_kept = k;' '*now_kept = kept;'
+story_bug history.rs "40 writes now_kept" $'if k > kept {\n        return 40;' $'if k > kept {\n        *now_kept = kept; return 40;'
+story_bug store.rs "winding back clears the room" 'let number = wind_back(self.kept, k, &mut now);' 'let number = wind_back(self.kept, k, &mut now); if number == 0 { self.room.iter_mut().skip(k as usize).for_each(|change| *change = Change::default()); }'
+story_bug store.rs "winding back asks for a first picture that reads" 'let number = wind_back(self.kept, k, &mut now);' 'let number = crate::history::Layout::of(&self.first).err().unwrap_or_else(|| wind_back(self.kept, k, &mut now));'
+story_bug store.rs "winding back refused with more kept than the room holds" 'let number = wind_back(self.kept, k, &mut now);' 'let number = if self.kept as usize > self.room.len() { 40 } else { wind_back(self.kept, k, &mut now) };'
+story_bug history.rs "a port cut to 8 bits" 'self.ports.get(port as usize)' 'self.ports.get(port as u8 as usize)'
+story_bug history.rs "a port cut to 16 bits" 'self.ports.get(port as usize)' 'self.ports.get(port as u16 as usize)'
+story_bug history.rs "a port equal to the count accepted" 'Ok(Layout { ports })' 'let past = record_bytes(edition, ports.len()); ports.push([past.start.min(first.len())..past.end.min(first.len()), 0..0]); Ok(Layout { ports })'
+story_bug history.rs "a part cut to 8 bits" 'get(part as usize)' 'get(part as u8 as usize)'
+story_bug history.rs "a part cut to 16 bits" 'get(part as usize)' 'get(part as u16 as usize)'
+story_bug history.rs "every part but 0 taken for the vectors" 'get(part as usize)' 'get(part.min(1) as usize)'
+story_bug history.rs "at cut to 8 bits" 'nth(change.at as usize)' 'nth(change.at as u8 as usize)'
+story_bug history.rs "at cut to 16 bits" 'nth(change.at as usize)' 'nth(change.at as u16 as usize)'
+story_bug history.rs "at equal to the length of a record accepted" 'ports.push([record_bytes(edition, port),' 'let record = record_bytes(edition, port); ports.push([record.start..(record.end + 1).min(first.len()),'
+story_bug history.rs "at equal to the length of the vectors accepted" 'vectors..vectors + length]' 'vectors..(vectors + length + 1).min(first.len())]'
+story_bug history.rs "records of 56 bytes in edition 2" 'edition.record_start(port)..edition.record_start(port + 1)' 'edition.record_start(port)..edition.record_start(port) + 56'
+story_bug history.rs "only the RID vector taken for the vectors" 'record.vector_lengths().iter().sum()' 'record.vector_lengths()[0]'
+story_bug history.rs "the vectors without MEM High" 'record.vector_lengths().iter().sum()' 'record.vector_lengths()[..2].iter().sum()'
+story_bug history.rs "the vectors of every port from where those of port 0 begin" 'record.vectors_start() as usize' 'records_of(first)[0].vectors_start() as usize'
+story_bug history.rs "the start of the vectors taken from the version" 'if let Some(place) = layout.place(change) {' 'let start_in = |version: &[u8]| layout.part(change.port, RECORD).map_or(0, |record| u32::from_le_bytes(version[record.start + 52..][..4].try_into().unwrap()) as usize); if let Some(place) = layout.place(change).map(|place| if change.part == VECTORS { start_in(&version) + change.at as usize } else { place }).filter(|&place| place < version.len()) {'
+story_bug history.rs "a change placed by the layout of the version before it" 'if let Some(place) = layout.place(change) {' 'if let Some(place) = Layout::of(&version).as_ref().unwrap_or(layout).place(change) {'
+story_bug history.rs "37 by the layout of the version kept" 'if run.iter().any(' 'let kept_version = changed(first, &layout, held(room, kept)); let layout = Layout::of(&kept_version).unwrap_or(layout); if run.iter().any('
+story_bug history.rs "only a sound first picture accepted" 'let edition = edition_of(first)' 'if first.len() < 1_024 { if let Err(refusal) = crate::judge::Judge::new(first).check() { return Err(refusal.number as u32); } } let edition = edition_of(first)'
+
+if wanted texts; then
+    "$second" pictures "$seed" 150 "$work/pictures" || exit 1
+    "$second" patches "$seed" 60 "$work/patches" || exit 1
+    texts run_built >"$work/texts.judge"
+    texts "$second" | cmp -s - "$work/texts.judge" || { echo "the texts differ without an edit"; exit 1; }
+    echo
+    echo "$(wc -l <"$work/texts.judge") texts of 150 pictures and 60 trials (seed $seed)"
+    echo "| file | what is wrong | found | texts that differ |"
+    echo "|---|---|---|---|"
+fi
 text_bug words.rs "device numbers in decimal" '{:02x}:{:02x}.{}' '{:02x}:{:02}.{}'
 text_bug explain.rs "the two holders turned round" 'holder(first), holder(second)' 'holder(second), holder(first)'
 text_bug explain.rs "how the second holds it said of the first" 'holder(first), holder(second)' 'in_tree(first) + &manner_text(second.holding), holder(second)'

@@ -5,13 +5,14 @@ use mathlib.Core.Bool.{Bool, true, false, cond}
 use mathlib.Core.List.{List}
 use mathlib.Core.Path.{_≡_, refl}
 use native.Mathlib.Omega.{arith}
-use borrow.Author.Tests.{eqb-true, eqb-false, ltb-true, ltb-false}
+use borrow.Author.Tests.{eqb-true, eqb-false, ltb-false}
 use lib.Dec.{eqb, ltb}
 use lib.ListN.{length}
+use Rattle.chassis.proofs.Bools.{or-false-parts}
 use Rattle.picture.specs.Reading.{reading, numberOf}
 use Rattle.changes.specs.declared.Change.{Change}
 use Rattle.changes.specs.Versions.{version}
-use Rattle.changes.specs.Adding.{mostRecords, countedOf, roomFull, runNumber, addingNumber}
+use Rattle.changes.specs.Adding.{mostChanges, roomFull, runNumber, addingNumber}
 
 pub record Added (first : List ℕ) (room run : List Change) (kept : ℕ) : Type 0 where
   pub read : numberOf (reading first) ≡ 0
@@ -32,9 +33,7 @@ adding-zero first room run kept z =
 
 -- a room that is not full has a record for each, and their number is one of 32 bits
 pub records-left : (records kept count : ℕ) → roomFull records kept count ≡ false → (kept + count ≤ records) × (kept + count < 2 ^ 32)
-unfolding roomFull countedOf
-records-left records kept count e = go (ltb mostRecords records) refl (ltb-false (cond (ltb mostRecords records) mostRecords records) (kept + count) e)
-  where
-    go : (b : Bool) → ltb mostRecords records ≡ b → kept + count ≤ cond b mostRecords records → (kept + count ≤ records) × (kept + count < 2 ^ 32)
-    go true few l = (omega (arith, l, ltb-true mostRecords records few), omega (arith, l))
-    go false few l = (l, omega (arith, l, ltb-false mostRecords records few))
+unfolding roomFull
+records-left records kept count e =
+    let both = or-false-parts (ltb records (kept + count)) (ltb mostChanges (kept + count)) e in
+    (ltb-false records (kept + count) (both .0), omega (arith, ltb-false mostChanges (kept + count) (both .1)))

@@ -14,7 +14,7 @@ use Rattle.least.specs.declared.Found.the-variants.{At, Nothing}
 use Rattle.picture.specs.Reading.{reading, numberOf}
 use Rattle.changes.specs.declared.Change.{Change}
 use Rattle.changes.specs.Change.{byteNamed}
-use Rattle.changes.specs.Versions.{withByte, made, changeAt, madeUpTo}
+use Rattle.changes.specs.Versions.{byteSet, made, changeAt, madeUpTo}
 use Rattle.changes.specs.ReadingBack.{versionNumber, readBack}
 use Rattle.changes.proofs.Named.{named, within}
 use Rattle.changes.proofs.Reading.{Read-as}
@@ -25,7 +25,7 @@ module _ (first : List ℕ) (sound : Read-as first) where
   unfolding made
   made-front c bytes rest same = go (byteNamed first c) refl
     where
-      go : (found : Found) → byteNamed first c ≡ found → withByte found (c .«new_byte») (bytes ++ rest) ≡ withByte found (c .«new_byte») bytes ++ rest
+      go : (found : Found) → byteNamed first c ≡ found → byteSet found (c .«new_byte») (bytes ++ rest) ≡ byteSet found (c .«new_byte») bytes ++ rest
       go (At x) e = set-append-left bytes rest x (c .«new_byte») (subst (λ (n : ℕ). x < n) (sym same) (within first (sound .header) (sound .all) c x (named first c x e)))
       go Nothing e = refl
 

@@ -20,14 +20,14 @@ use Rattle.trees.specs.Trees.{countOf}
 use Rattle.picture.specs.Reading.{reading, numberOf}
 use Rattle.changes.specs.declared.Change.{Change}
 use Rattle.changes.specs.Change.{partBytes, byteNamed}
-use Rattle.changes.specs.Versions.{withByte, made, noChange, changeAt, madeUpTo, version}
-use Rattle.changes.specs.Adding.{isNone, byteAt, isAnother, namesNone, oldWrong, runNumber, roomFull, orNext, addingNumber}
+use Rattle.changes.specs.Versions.{byteSet, made, noChange, changeAt, madeUpTo, version}
+use Rattle.changes.specs.Adding.{isNone, byteAt, isAnother, namesNone, oldWrong, runNumber, roomFull, elseNumber, addingNumber}
 use Rattle.changes.specs.Looking.{sameByte, heldAfter, heldUpTo, lower}
 use Rattle.changes.proofs.Named.{named, within, same-place}
 use Rattle.changes.proofs.Reading.{Read-as}
 
 -- a change keeps the length
-with-length : (found : Found) (byte : ℕ) (bytes : List ℕ) → length (withByte found byte bytes) ≡ length bytes
+with-length : (found : Found) (byte : ℕ) (bytes : List ℕ) → length (byteSet found byte bytes) ≡ length bytes
 with-length (At x) byte bytes = length-set bytes x byte
 with-length Nothing byte bytes = refl
 
@@ -57,7 +57,7 @@ module _ (first : List ℕ) (sound : Read-as first) (c : Change) (x : ℕ) (is :
       there : x < length bytes
       there = subst (λ (n : ℕ). x < n) (sym same) (within first (sound .header) (sound .all) c x (named first c x is))
 
-      go : (found : Found) → byteNamed first d ≡ found → (b : Bool) → sameByte d c ≡ b → getD (withByte found (d .«new_byte») bytes) x 0 ≡ cond b (d .«new_byte») (getD bytes x 0)
+      go : (found : Found) → byteNamed first d ≡ found → (b : Bool) → sameByte d c ≡ b → getD (byteSet found (d .«new_byte») bytes) x 0 ≡ cond b (d .«new_byte») (getD bytes x 0)
       go (At y) e true s =
           let one : At y ≡ At x = sym e ∙ same-named first d c s ∙ is in
           let place : y ≡ x = cc in
@@ -81,7 +81,7 @@ past-end : (first : List ℕ) (bytes : List ℕ) → made first noChange bytes �
 unfolding made byteNamed partBytes
 past-end first bytes = go (ltb 0 (countOf first)) _
   where
-    go : (b : Bool) (x : ℕ) → withByte (cond (b && false) (At x) Nothing) 0 bytes ≡ bytes
+    go : (b : Bool) (x : ℕ) → byteSet (cond (b && false) (At x) Nothing) 0 bytes ≡ bytes
     go true x = refl
     go false x = refl
 
@@ -156,14 +156,14 @@ number-none first bytes run = refl
 
 -- the number that adding ends with, of a run that was gone through as far as the first picture reads
 pub adding-by : (first : List ℕ) (room run : List Change) (kept n : ℕ) → n ≡ cond (eqb (numberOf (reading first)) 0) (length run) 0
-    → orNext (numberOf (reading first)) (orNext (runNumber first (version first room kept) run n) (cond (roomFull (length room) kept (length run)) 39 0)) ≡ addingNumber first room run kept
+    → elseNumber (numberOf (reading first)) (elseNumber (runNumber first (version first room kept) run n) (cond (roomFull (length room) kept (length run)) 39 0)) ≡ addingNumber first room run kept
 unfolding addingNumber
 adding-by first room run kept n is = go (eqb (numberOf (reading first)) 0) is
   where
     go : (b : Bool) → n ≡ cond b (length run) 0
-        → cond b (orNext (runNumber first (version first room kept) run n) (cond (roomFull (length room) kept (length run)) 39 0)) (numberOf (reading first))
-        ≡ cond b (orNext (runNumber first (version first room kept) run (length run)) (cond (roomFull (length room) kept (length run)) 39 0)) (numberOf (reading first))
-    go true e = ap (λ (m : ℕ). orNext (runNumber first (version first room kept) run m) (cond (roomFull (length room) kept (length run)) 39 0)) e
+        → cond b (elseNumber (runNumber first (version first room kept) run n) (cond (roomFull (length room) kept (length run)) 39 0)) (numberOf (reading first))
+        ≡ cond b (elseNumber (runNumber first (version first room kept) run (length run)) (cond (roomFull (length room) kept (length run)) 39 0)) (numberOf (reading first))
+    go true e = ap (λ (m : ℕ). elseNumber (runNumber first (version first room kept) run m) (cond (roomFull (length room) kept (length run)) 39 0)) e
     go false e = refl
 
 -- the number after one change more of the run, by what is looked for on the way

@@ -9,8 +9,8 @@ use native.Mathlib.Decide.{decLt}
 use native.Mathlib.Omega.{arith}
 use borrow.Author.Tests.{eqb-true, not-false}
 use lib.Dec.{eqb}
-use lib.ListN.{length, getD, set}
-use lib.Seq.{getD-set-same, getD-set-other}
+use lib.ListN.{length, getD, set, take}
+use lib.Seq.{getD-set-same, getD-set-other, getD-take}
 use Rattle.least.proofs.Laws.{impossible}
 use Rattle.least.specs.declared.Found.{Found}
 use Rattle.least.specs.declared.Found.the-variants.{At, Nothing}
@@ -51,6 +51,11 @@ same-versions first a b bytes zero same = refl
 same-versions first a b bytes (suc k) same =
     ap (λ (c : Change). made first c (madeUpTo first a bytes k)) (same k (omega arith))
     ∙ ap (made first (changeAt b k)) (same-versions first a b bytes k (λ j l. same j (omega (arith, l))))
+
+-- the first k changes of a room
+pub kept-changes : (room : List Change) (k i : ℕ) → i < k → changeAt (take k room) i ≡ changeAt room i
+unfolding changeAt
+kept-changes room k i l = getD-take k room i noChange l
 
 module _ (first : List ℕ) (room run : List Change) (kept : ℕ) (fits : kept + length run ≤ length room) where
   -- the room is as long as it was
@@ -96,11 +101,9 @@ right-run first bytes run n z = go (anyBelow (namesNone first run) n) refl (anyB
     go true ea b eb z = absurd (omega (arith, z))
 
 -- what one change of an added run does: it names a byte, which holds the old byte in the version before it and the new one in the version after it
-pub record Changed (first : List ℕ) (room : List Change) (c : Change) (k : ℕ) : Type 0 where
-  pub place : ℕ
-  pub names : byteNamed first c ≡ At place
-  pub old-there : getD (version first room k) place 0 ≡ c .«old_byte»
-  pub new-there : getD (version first room (suc k)) place 0 ≡ c .«new_byte»
+abbrev pub Does : List ℕ → List Change → Change → ℕ → ℕ → Type 0
+Does first room c k x =
+    (byteNamed first c ≡ At x) × (getD (version first room k) x 0 ≡ c .«old_byte») × (getD (version first room (suc k)) x 0 ≡ c .«new_byte»)
 
 one-more : (first : List ℕ) (changes : List Change) (bytes : List ℕ) (k : ℕ) → madeUpTo first changes bytes (suc k) ≡ made first (changeAt changes k) (madeUpTo first changes bytes k)
 unfolding madeUpTo
@@ -122,7 +125,7 @@ module _ (first : List ℕ) (room run : List Change) (kept : ℕ) (zero-number :
   pub fits-in : kept + length run ≤ length room
   fits-in = records-left (length room) kept (length run) (added .room-left) .0
 
-  pub changes-so : (i : ℕ) → i < length run → Changed first (behind room kept run) (changeAt run i) (kept + i)
+  pub changes-so : (i : ℕ) → i < length run → (x : ℕ) × Does first (behind room kept run) (changeAt run i) (kept + i) x
   unfolding namesNone oldWrong
   changes-so i l =
       let right = right-run first (version first room kept) run (length run) (added .run-right) in
@@ -140,17 +143,16 @@ module _ (first : List ℕ) (room run : List Change) (kept : ℕ) (zero-number :
       new-is : (x : ℕ) → byteNamed first c ≡ At x → getD (madeUpTo first run (version first room kept) (suc i)) x 0 ≡ c .«new_byte»
       new-is x e = ap (λ (b : List ℕ). getD b x 0) (one-more first run (version first room kept) i) ∙ made-there first sound c x e bytes long
 
-      go : (found : Found) → byteNamed first c ≡ found → isNone found ≡ false → isAnother found (byteAt found bytes) (c .«old_byte») ≡ false → Changed first (behind room kept run) c (kept + i)
-      go (At x) e some same =
-          record {
-            place = x;
-            names = e;
-            old-there =
-                ap (λ (b : List ℕ). getD b x 0) (above-kept first room run kept fits-in i (omega (arith, l)))
-                ∙ eqb-true _ _ (not-false (eqb (getD bytes x 0) (c .«old_byte»)) same);
-            new-there =
-                ap (λ (k : ℕ). getD (version first (behind room kept run) k) x 0) (sym (add-suc kept i))
-                ∙ ap (λ (b : List ℕ). getD b x 0) (above-kept first room run kept fits-in (suc i) l)
-                ∙ new-is x e;
-          }
+      go : (found : Found) → byteNamed first c ≡ found → isNone found ≡ false → isAnother found (byteAt found bytes) (c .«old_byte») ≡ false → (x : ℕ) × Does first (behind room kept run) c (kept + i) x
+      go (At x) e some same = (
+        x,
+        (
+          e,
+          ap (λ (b : List ℕ). getD b x 0) (above-kept first room run kept fits-in i (omega (arith, l)))
+              ∙ eqb-true _ _ (not-false (eqb (getD bytes x 0) (c .«old_byte»)) same),
+          ap (λ (k : ℕ). getD (version first (behind room kept run) k) x 0) (sym (add-suc kept i))
+              ∙ ap (λ (b : List ℕ). getD b x 0) (above-kept first room run kept fits-in (suc i) l)
+              ∙ new-is x e,
+        ),
+      )
       go Nothing e some same = impossible (cc)

@@ -1,24 +1,24 @@
--- Where the bytes lie that changes name: in a picture that reads each lies within it, and only the same port, part and place name one
--- byte twice.
+-- Where the bytes lie that changes name: in a picture that reads each lies behind its header, each byte there is named, and only the same
+-- port, part and place name one byte twice.
 -- Assumes nothing.
-use Prim.Native.Nat.{ℕ, suc, zero-le, _+_, _-_, _<_, _≤_}
+use Prim.Native.Nat.{ℕ, zero, suc, zero-le, _+_, _-_, _*_, _<_, _≤_}
 use mathlib.Core.Bool.{Bool, true, false, cond, _&&_}
 use mathlib.Core.List.{List}
 use mathlib.Core.Logic.{_⊎_, inl, inr, ⊎-elim}
-use mathlib.Core.Path.{_≡_, refl, sym, ap, _∙_}
+use mathlib.Core.Path.{_≡_, refl, sym, ap, _∙_, subst}
 use native.Mathlib.Decide.{decLt}
 use native.Mathlib.Omega.{arith}
-use borrow.Author.Tests.{ltb-true, eqb-true, eq-eqb}
+use borrow.Author.Tests.{lt-ltb, ltb-true, eqb-true, eq-eqb, not-false}
 use lib.Dec.{eqb, ltb}
 use lib.ListN.{length}
 use Rattle.least.proofs.Laws.{impossible}
 use Rattle.least.specs.declared.Found.the-variants.{At, Nothing}
-use Rattle.registers.proofs.Laws.{record-next, record-mono}
+use Rattle.registers.proofs.Laws.{record-next, record-mono, record-behind}
 use Rattle.registers.specs.Record.{editionOf, recordBytes, recordAt, recordIn, portAt}
 use Rattle.trees.specs.Trees.{countOf}
 use Rattle.picture.proofs.WhatReads.{Reads, starts-there, offset-grows, room}
 use Rattle.picture.specs.declared.Header.{Header}
-use Rattle.picture.specs.Layout.{allBytes, runningOffset}
+use Rattle.picture.specs.Layout.{allBytes, runningOffset, endWrong}
 use Rattle.changes.specs.declared.Change.{Change}
 use Rattle.changes.specs.Change.{inRecord, inVectors, partBytes, partStart, byteNamed}
 use Rattle.changes.specs.Looking.{sameByte}
@@ -29,6 +29,14 @@ record-first edition = record-mono edition 0 1 (omega arith)
 
 pub record-size : (edition : ℕ) → recordAt edition 1 - recordAt edition 0 ≡ recordBytes edition
 record-size edition = rw (record-next edition 0) (omega arith)
+
+record-start : (edition : ℕ) → recordAt edition 0 ≡ 16
+unfolding recordAt
+record-start edition = go (eqb edition 2)
+  where
+    go : (b : Bool) → 16 + cond b 60 56 * 0 ≡ 16
+    go true = refl
+    go false = refl
 
 -- what is so of a change that names a byte
 pub record Named (first : List ℕ) (c : Change) (x : ℕ) : Type 0 where
@@ -115,3 +123,52 @@ module _ (first : List ℕ) (h : Header) (reads : Reads first h) where
           all-same (both .0) (r .0 ∙ sym (s .0)) (both .1)
       go (inl r) (inr s) = absurd (apart (d .port) (c .port) (d .at) (c .at) (one .port-there) (r .1 .1) (sym (r .1 .0) ∙ s .1 .0))
       go (inr r) (inl s) = absurd (apart (c .port) (d .port) (c .at) (d .at) (other .port-there) (s .1 .1) (sym (s .1 .0) ∙ r .1 .0))
+
+  -- and every byte behind the header is named
+  byte-in : (p part at x : ℕ) → p < countOf first → at < partBytes first p part → x ≡ partStart first p part + at → (c : Change) × (byteNamed first c ≡ At x)
+  unfolding byteNamed
+  byte-in p part at x below there is =
+      (record { port = p; part = part; at = at; «old_byte» = 0; «new_byte» = 0 }, rw (lt-ltb p (countOf first) below, lt-ltb at (partBytes first p part) there, is))
+
+  -- in which of the first n records or sets of vectors a place lies
+  in-records : (n x : ℕ) → n ≤ countOf first → 16 ≤ x → x < recordIn first n → (c : Change) × (byteNamed first c ≡ At x)
+  unfolding partBytes partStart
+  in-records zero x few from below = absurd (omega (arith, from, below, record-start (editionOf first)))
+  in-records (suc n) x few from below = go (in-records n x (omega (arith, few)) from) (decLt x (recordIn first n))
+    where
+      go : (x < recordIn first n → (c : Change) × (byteNamed first c ≡ At x)) → Dec (x < recordIn first n) → (c : Change) × (byteNamed first c ≡ At x)
+      go lower (yes l) = lower l
+      go lower (no l) = byte-in n inRecord (x - recordIn first n) x (omega (arith, few)) (omega (arith, l, below, record-next (editionOf first) n)) (omega (arith, l))
+
+  in-vectors : (n x : ℕ) → n ≤ countOf first → runningOffset first 0 ≤ x → x < runningOffset first n → (c : Change) × (byteNamed first c ≡ At x)
+  unfolding partBytes partStart runningOffset
+  in-vectors zero x few from below = absurd (omega (arith, from, below))
+  in-vectors (suc n) x few from below = go (in-vectors n x (omega (arith, few)) from) (decLt x (runningOffset first n))
+    where
+      go : (x < runningOffset first n → (c : Change) × (byteNamed first c ≡ At x)) → Dec (x < runningOffset first n) → (c : Change) × (byteNamed first c ≡ At x)
+      go lower (yes l) = lower l
+      go lower (no l) =
+          byte-in n inVectors (x - runningOffset first n) x (omega (arith, few)) (omega (arith, l, below))
+          (rw (starts-there first h reads n (omega (arith, few))) (omega (arith, l)))
+
+  ends : runningOffset first (countOf first) ≡ length first
+  unfolding endWrong
+  ends = eqb-true _ _ (not-false (eqb (runningOffset first (countOf first)) (length first)) (reads .end-right))
+
+  pub all-named : (x : ℕ) → 16 ≤ x → x < length first → (c : Change) × (byteNamed first c ≡ At x)
+  unfolding runningOffset
+  all-named x from below = go (decLt x (recordIn first (countOf first)))
+    where
+      go : Dec (x < recordIn first (countOf first)) → (c : Change) × (byteNamed first c ≡ At x)
+      go (yes l) = in-records (countOf first) x (omega arith) from l
+      go (no l) = in-vectors (countOf first) x (omega arith) (omega (arith, l)) (subst (λ (n : ℕ). x < n) (sym ends) below)
+
+  pub behind-header : (c : Change) (x : ℕ) → Named first c x → 16 ≤ x
+  unfolding runningOffset
+  behind-header c x is = ⊎-elim in-record in-vector (lies c x is)
+    where
+      in-record : InRecord c x → 16 ≤ x
+      in-record r = omega (arith, r, record-behind (editionOf first) (c .port))
+
+      in-vector : InVectors c x → 16 ≤ x
+      in-vector r = omega (arith, r, record-behind (editionOf first) (countOf first), offset-grows first 0 (c .port) zero-le)

@@ -1,4 +1,4 @@
--- How many records of a room count, and whether they are too few.
+-- Whether the records of a room are too few.
 -- Assumes nothing.
 use Prim.Native.Nat.{ℕ, _+_, _-_, _<_, _≤_}
 use mathlib.Core.Bool.{Bool, true, false, cond}
@@ -8,22 +8,19 @@ use native.Mathlib.Decide.{decLt}
 use native.Mathlib.Nat.{le-refl}
 use borrow.Author.Tests.{lt-ltb, le-ltb, ltb-false}
 use lib.Dec.{ltb}
-use Rattle.changes.specs.Adding.{countedOf, roomFull}
 
-module _ (records kept count most : ℕ) (is : most ≡ countedOf records) where
+module _ (records kept count : ℕ) where
   -- fewer records than are kept
-  pub full-already : most < kept → true ≡ roomFull records kept count
-  unfolding roomFull
-  full-already less = rw (← is, lt-ltb most (kept + count) (omega arith))
+  pub full-already : records < kept → true ≡ ltb records (kept + count)
+  full-already less = sym (lt-ltb records (kept + count) (omega arith))
 
   -- what is left of the records against the run
-  pub full-by-rest : kept ≤ most → ltb (most - kept) count ≡ roomFull records kept count
-  unfolding roomFull
-  full-by-rest least = rw (← is) (go (decLt (most - kept) count))
+  pub full-by-rest : kept ≤ records → ltb (records - kept) count ≡ ltb records (kept + count)
+  full-by-rest least = go (decLt (records - kept) count)
     where
-      go : Dec (most - kept < count) → ltb (most - kept) count ≡ ltb most (kept + count)
-      go (yes l) = lt-ltb (most - kept) count l ∙ sym (lt-ltb most (kept + count) (omega arith))
-      go (no l) = le-ltb (most - kept) count (omega arith) ∙ sym (le-ltb most (kept + count) (omega arith))
+      go : Dec (records - kept < count) → ltb (records - kept) count ≡ ltb records (kept + count)
+      go (yes l) = lt-ltb (records - kept) count l ∙ sym (lt-ltb records (kept + count) (omega arith))
+      go (no l) = le-ltb (records - kept) count (omega arith) ∙ sym (le-ltb records (kept + count) (omega arith))
 
 -- the changes kept that stand in a room are no more than its records
 pub held-within : (records kept : ℕ) → cond (ltb records kept) records kept ≤ records

@@ -2,7 +2,7 @@
 -- it holds (38), and a full room (39, exactly if the changes kept and the run together outnumber the records of the lent room); a run
 -- is added whole or not at all."
 use Prim.Native.Nat.{ℕ, _+_}
-use mathlib.Core.Bool.{Bool, true, false, not, cond}
+use mathlib.Core.Bool.{Bool, true, false, not, cond, _||_}
 use mathlib.Core.List.{List, _++_}
 use lib.Dec.{eqb, ltb}
 use lib.ListN.{length, getD, take, drop}
@@ -42,26 +42,27 @@ oldWrong first bytes run i =
 unfoldable pub runNumber : List ℕ → List ℕ → List Change → ℕ → ℕ
 runNumber first bytes run n = cond (anyBelow (namesNone first run) n) 37 (cond (anyBelow (oldWrong first bytes run) n) 38 0)
 
--- 39. The number kept is one of 32 bits, so no room counts more records than that
-abbrev pub mostRecords : ℕ
-mostRecords = 4294967295
-
-unfoldable pub countedOf : ℕ → ℕ
-countedOf records = cond (ltb mostRecords records) mostRecords records
+-- 39, or more changes than the number kept, one of 32 bits, can count
+abbrev pub mostChanges : ℕ
+mostChanges = 4294967295
 
 unfoldable pub roomFull : ℕ → ℕ → ℕ → Bool
-roomFull records kept count = ltb (countedOf records) (kept + count)
+roomFull records kept count = ltb records (kept + count) || ltb mostChanges (kept + count)
 
 -- a number, or the next one where that is 0
-abbrev pub orNext : ℕ → ℕ → ℕ
-orNext number next = cond (eqb number 0) next number
+abbrev pub elseNumber : ℕ → ℕ → ℕ
+elseNumber number next = cond (eqb number 0) next number
 
 -- the number that adding ends with: of the first picture, of the run, of the room
 unfoldable pub addingNumber : List ℕ → List Change → List Change → ℕ → ℕ
 addingNumber first room run kept =
-    orNext (numberOf (reading first))
-    (orNext (runNumber first (version first room kept) run (length run))
+    elseNumber (numberOf (reading first))
+    (elseNumber (runNumber first (version first room kept) run (length run))
     (cond (roomFull (length room) kept (length run)) 39 0))
+
+-- "A refusal changes nothing": what is there after a call that ended with a number
+abbrev pub unlessRefused : {E : Type 0} → ℕ → E → E → E
+unlessRefused number after before = cond (eqb number 0) after before
 
 -- the room with a run behind the changes kept
 unfoldable pub behind : List Change → ℕ → List Change → List Change

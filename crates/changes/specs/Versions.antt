@@ -8,13 +8,13 @@ use Rattle.changes.specs.declared.Change.{Change}
 use Rattle.changes.specs.Change.{byteNamed}
 
 -- bytes with one of them set, where one is named
-abbrev pub withByte : Found → ℕ → List ℕ → List ℕ
-withByte (At x) byte bytes = set bytes x byte
-withByte Nothing byte bytes = bytes
+abbrev pub byteSet : Found → ℕ → List ℕ → List ℕ
+byteSet (At x) byte bytes = set bytes x byte
+byteSet Nothing byte bytes = bytes
 
 -- bytes with a change made
 unfoldable pub made : List ℕ → Change → List ℕ → List ℕ
-made first c bytes = withByte (byteNamed first c) (c .«new_byte») bytes
+made first c bytes = byteSet (byteNamed first c) (c .«new_byte») bytes
 
 -- change i of a run; past its end, one that names no byte
 abbrev pub noChange : Change

@@ -2,16 +2,14 @@
 use crate::Change;
 use crate::places::byte_named;
 use least::Found;
-ghost use mathlib.Core.Bool.{cond};
 ghost use mathlib.Core.List.{_++_};
 ghost use mathlib.Core.Path.{_≡_};
 ghost use Prim.Native.Nat.{_≤_};
-ghost use lib.Dec.{eqb};
 ghost use lib.ListN.{length, drop};
 ghost use Rattle.trees.specs.Trees.{countOf};
 ghost use Rattle.changes.specs.Change.{byteNamed};
 ghost use Rattle.changes.specs.Versions.{made};
-ghost use Rattle.changes.specs.Adding.{byteAt};
+ghost use Rattle.changes.specs.Adding.{byteAt, unlessRefused};
 ghost use Rattle.changes.specs.Looking.{heldAfter};
 
 // The byte that a change names, as the first picture has it.
@@ -54,7 +52,7 @@ pub fn make_change(first: &[u8], out: &mut [u8], c: Change)
 // Lays the first picture into a buffer, unless a number refuses.
 pub fn lay_first(first: &[u8], out: &mut [u8], number: u32)
     requires { ⌜ (number ≡ 0 → length (now first) ≤ length (now out)) ⌝ }
-    ensures { λ _. ⌜ now (out .exit) ≡ cond (eqb number 0) (now (first .entry) ++ drop (length (now (first .entry))) (now (out .entry))) (now (out .entry)) ⌝ }
+    ensures { λ _. ⌜ now (out .exit) ≡ unlessRefused number (now (first .entry) ++ drop (length (now (first .entry))) (now (out .entry))) (now (out .entry)) ⌝ }
 {
     if number == 0 {
         bytes::copy(first, out);

@@ -11,12 +11,12 @@ ghost use lib.ListN.{length};
 ghost use Rattle.trees.specs.Trees.{countOf};
 ghost use Rattle.picture.specs.Reading.{reading, numberOf};
 ghost use Rattle.changes.specs.Change.{byteNamed};
-ghost use Rattle.changes.specs.Adding.{isNone, isAnother, countedOf, roomFull, orNext};
+ghost use Rattle.changes.specs.Adding.{isNone, isAnother, roomFull, elseNumber, unlessRefused};
 ghost use Rattle.changes.specs.ReadingBack.{windBackNumber, versionNumber};
 ghost use Rattle.changes.specs.Looking.{lower};
 
 // The most changes that a number of 32 bits counts.
-const MOST_RECORDS: usize = 4294967295;
+const MOST_CHANGES: usize = 4294967295;
 
 // Numbers 1 to 10, or 0.
 pub fn reading_number(first: &[u8]) -> u32
@@ -74,31 +74,26 @@ fn worst(number: u32, wrong: bool) -> u32
     if wrong | (number == 38) { 38 } else { 0 }
 }
 
-// How many records of a room count.
-fn counted(records: usize) -> usize
-    ensures { λ r. ⌜ r ≡ countedOf records ⌝ }
+// Whether the changes kept and some more outnumber the records.
+fn outnumber(records: usize, kept: u32, count: usize) -> bool
+    ensures { λ r. ⌜ r ≡ ltb records (kept + count) ⌝ }
 {
-    if MOST_RECORDS < records {
-        MOST_RECORDS
-    } else {
-        records
+    if records < kept as usize {
+        return true;
     }
+    records - (kept as usize) < count
 }
 
 // Number 39: whether a room has no place for some changes more.
 fn room_full(records: usize, kept: u32, count: usize) -> bool
     ensures { λ r. ⌜ r ≡ roomFull records kept count ⌝ }
 {
-    let most = counted(records);
-    if most < kept as usize {
-        return true;
-    }
-    most - (kept as usize) < count
+    outnumber(records, kept, count) | outnumber(MOST_CHANGES, kept, count)
 }
 
 // The number that adding ends with, by those of the first picture and of the run.
 pub fn adding_number(first: u32, run: u32, records: usize, kept: u32, count: usize) -> u32
-    ensures { λ r. ⌜ r ≡ orNext first (orNext run (cond (roomFull records kept count) 39 0)) ⌝ }
+    ensures { λ r. ⌜ r ≡ elseNumber first (elseNumber run (cond (roomFull records kept count) 39 0)) ⌝ }
 {
     if first != 0 {
         return first;
@@ -137,7 +132,7 @@ pub fn version_number(first: &[u8], records: usize, buffer: usize, kept: u32, k:
 // The number kept after a run was added, unless a number refuses.
 pub fn keep(now_kept: &mut u32, number: u32, kept: u32, count: usize)
     requires { ⌜ (number ≡ 0 → kept + count < 2 ^ 32) ⌝ }
-    ensures { λ _. ⌜ now («now_kept» .exit) ≡ cond (eqb number 0) (kept + count) (now («now_kept» .entry)) ⌝ }
+    ensures { λ _. ⌜ now («now_kept» .exit) ≡ unlessRefused number (kept + count) (now («now_kept» .entry)) ⌝ }
 {
     if number == 0 {
         *now_kept = (kept as usize + count) as u32;

@@ -1,10 +1,12 @@
 -- 02, Item 11: the statements of specs/History.antt, proved.
 -- Assumes nothing.
-use Prim.Native.Nat.{ℕ, _+_}
+use Prim.Native.Nat.{ℕ, _≤_}
 use mathlib.Core.Bool.{Bool, true, false, cond, _||_, _&&_}
 use mathlib.Core.List.{List, [], _∷_, _++_}
-use mathlib.Core.Path.{_≡_, refl, ap, _∙_}
-use borrow.Author.Tests.{le-ltb, ne-eqb, eq-eqb, eqb-true}
+use mathlib.Core.Path.{_≡_, refl, sym, ap, _∙_}
+use native.Mathlib.Nat.{le-refl}
+use native.Mathlib.Omega.{arith}
+use borrow.Author.Tests.{lt-ltb, le-ltb, ne-eqb, eq-eqb, eqb-true}
 use lib.Dec.{eqb, ltb}
 use lib.ListN.{length, take, drop}
 use lib.Seq.{take-at, drop-at}
@@ -14,12 +16,13 @@ use Rattle.least.proofs.Laws.{impossible}
 use Rattle.least.specs.declared.Found.the-variants.{At}
 use Rattle.picture.specs.Reading.{reading, numberOf}
 use Rattle.changes.specs.Change.{byteNamed}
-use Rattle.changes.specs.Versions.{version}
+use Rattle.changes.specs.declared.Change.{Change}
+use Rattle.changes.specs.Versions.{changeAt, version}
 use Rattle.changes.specs.Adding.{namesNone, oldWrong, runNumber, roomFull, addingNumber}
 use Rattle.changes.specs.ReadingBack.{versionNumber, readBack}
 use Rattle.changes.proofs.Held.{same-named, up-to-length}
-use Rattle.changes.proofs.Histories.{fits-in, behind-length, before-kept, above-kept, changes-so}
-use Rattle.changes.proofs.Named.{named, same-place}
+use Rattle.changes.proofs.Histories.{same-versions, kept-changes, fits-in, behind-length, before-kept, above-kept, changes-so}
+use Rattle.changes.proofs.Named.{named, within, same-place, all-named, behind-header}
 use Rattle.changes.proofs.Reading.{reads-zero}
 use Rattle.demands.specs.Demands.{oneOf, ofReading}
 use Rattle.demands.specs.History.{HistoryNumbers, HistoryAdded, HistoryWoundBack, HistoryRefused, HistoryReadBack, HistoryNamed}
@@ -67,11 +70,21 @@ history-added first room run kept z =
       as-long = behind-length first room run kept fits;
       before = before-kept first room run kept fits;
       above = above-kept first room run kept fits;
-      each = λ i l. let so = changes-so first room run kept z i l in record { place = so .place; names = so .names; old-there = so .old-there; new-there = so .new-there };
+      each = λ i l. let so = changes-so first room run kept z i l in record { place = so .0; names = so .1 .0; old-there = so .1 .1; new-there = so .1 .2 };
     }
 
 pub history-wound-back : (first : List ℕ) → HistoryWoundBack first
-history-wound-back first room kept k l = (simp (le-ltb kept k l), λ run z. history-added first room run k z)
+unfolding addingNumber
+history-wound-back first =
+    record {
+      accepted = λ kept k l. simp (le-ltb kept k l);
+      refused = λ kept k l. simp (lt-ltb kept k l);
+      dropped = λ room other run k long same. rw (long, versions room other k k same (le-refl k));
+      before = versions;
+    }
+  where
+    versions : (room other : List Change) (k j : ℕ) → take k room ≡ take k other → j ≤ k → version first room j ≡ version first other j
+    versions room other k j same l = same-versions first room other first j (λ i below. sym (kept-changes room k i (omega (arith, below, l))) ∙ ap (λ (m : List Change). changeAt m i) same ∙ kept-changes other k i (omega (arith, below, l)))
 
 pub history-refused : (first : List ℕ) → HistoryRefused first
 history-refused first =
@@ -85,18 +98,24 @@ pub history-read-back : (first : List ℕ) → HistoryReadBack first
 unfolding readBack
 history-read-back first room kept k before after call =
     let long = up-to-length first room first k in
-    (ap (take (length first)) (call .buffer-is) ∙ take-at (version first room k) _ (length first) long, ap (drop (length first)) (call .buffer-is) ∙ drop-at (version first room k) _ (length first) long)
+    (long, ap (take (length first)) (call .buffer-is) ∙ take-at (version first room k) _ (length first) long, ap (drop (length first)) (call .buffer-is) ∙ drop-at (version first room k) _ (length first) long)
 
-pub history-named : (first : List ℕ) → HistoryNamed first
-history-named first z c d x is = (one-place, one-byte)
+pub history-named : (first : List ℕ) → numberOf (reading first) ≡ 0 → HistoryNamed first
+history-named first z =
+    let sound = reads-zero first z in
+    record {
+      within = λ c x is. (behind-header first (sound .header) (sound .all) c x (named first c x is), within first (sound .header) (sound .all) c x (named first c x is));
+      all = all-named first (sound .header) (sound .all);
+      once = λ c d x is. (one-place c d x is, one-byte c d x is);
+    }
   where
-    one-place : byteNamed first d ≡ At x → (d .port ≡ c .port) × (d .part ≡ c .part) × (d .at ≡ c .at)
-    one-place e =
+    one-place : (c d : Change) (x : ℕ) → byteNamed first c ≡ At x → byteNamed first d ≡ At x → (d .port ≡ c .port) × (d .part ≡ c .part) × (d .at ≡ c .at)
+    one-place c d x is e =
         let sound = reads-zero first z in
         let same = same-place first (sound .header) (sound .all) d c x (named first d x e) (named first c x is) in
         let both = and-true-parts (eqb (d .port) (c .port) && eqb (d .part) (c .part)) (eqb (d .at) (c .at)) same in
         let two = and-true-parts (eqb (d .port) (c .port)) (eqb (d .part) (c .part)) (both .0) in
         (eqb-true _ _ (two .0), eqb-true _ _ (two .1), eqb-true _ _ (both .1))
 
-    one-byte : (d .port ≡ c .port) × (d .part ≡ c .part) × (d .at ≡ c .at) → byteNamed first d ≡ At x
-    one-byte e = same-named first d c (rw (eq-eqb _ _ (e .0), eq-eqb _ _ (e .1), eq-eqb _ _ (e .2))) ∙ is
+    one-byte : (c d : Change) (x : ℕ) → byteNamed first c ≡ At x → (d .port ≡ c .port) × (d .part ≡ c .part) × (d .at ≡ c .at) → byteNamed first d ≡ At x
+    one-byte c d x is e = same-named first d c (rw (eq-eqb _ _ (e .0), eq-eqb _ _ (e .1), eq-eqb _ _ (e .2))) ∙ is

@@ -7,7 +7,6 @@ use mathlib.Core.Logic.{_↔_}
 use mathlib.Core.Path.{_≡_}
 use lib.ListN.{length, getD, take, drop}
 use Rattle.least.specs.declared.Found.the-variants.{At}
-use Rattle.picture.specs.Reading.{reading, numberOf}
 use Rattle.changes.specs.declared.Change.{Change}
 use Rattle.changes.specs.Change.{byteNamed}
 use Rattle.changes.specs.Versions.{changeAt, madeUpTo, version}
@@ -40,12 +39,15 @@ pub record RunAdded (first : List ℕ) (room run : List Change) (kept : ℕ) : T
 abbrev pub HistoryAdded : List ℕ → Type 0
 HistoryAdded first = (room run : List Change) (kept : ℕ) → addingNumber first room run kept ≡ 0 → RunAdded first room run kept
 
--- "Winding back to version k drops the later changes, and their room is used again"; "After a wind-back, numbers above k mean the new
--- changes": the run stands behind k changes, over those that were kept behind them
-abbrev pub HistoryWoundBack : List ℕ → Type 0
-HistoryWoundBack first =
-    (room : List Change) (kept k : ℕ) → k ≤ kept
-    → (windBackNumber kept k ≡ 0) × ((run : List Change) → addingNumber first room run k ≡ 0 → RunAdded first room run k)
+-- "Winding back to version k drops the later changes, and their room is used again; a k above the last is 40"; "After a wind-back, numbers
+-- above k mean the new changes": what stands behind the first k changes of a room makes no difference to what is added there and to the
+-- versions up to k
+pub record HistoryWoundBack (first : List ℕ) : Type 0 where
+  pub accepted : (kept k : ℕ) → k ≤ kept → windBackNumber kept k ≡ 0
+  pub refused : (kept k : ℕ) → kept < k → windBackNumber kept k ≡ 40
+  pub dropped : (room other run : List Change) (k : ℕ) → length room ≡ length other → take k room ≡ take k other
+      → addingNumber first room run k ≡ addingNumber first other run k
+  pub before : (room other : List Change) (k j : ℕ) → take k room ≡ take k other → j ≤ k → version first room j ≡ version first other j
 
 -- "A refusal changes nothing"
 pub record HistoryRefused (first : List ℕ) : Type 0 where
@@ -55,14 +57,16 @@ pub record HistoryRefused (first : List ℕ) : Type 0 where
   pub reading-back : (room : List Change) (kept k number : ℕ) (before after : List ℕ) → VersionCall first room kept k before number after
       → (number ≡ 0 → ⊥) → after ≡ before
 
--- "Each version read back equals what its history says": the buffer begins with it, and its rest is kept
+-- "Each version read back equals what its history says": it is as long as the first picture, the buffer begins with it, and its rest is kept
 abbrev pub HistoryReadBack : List ℕ → Type 0
 HistoryReadBack first =
     (room : List Change) (kept k : ℕ) (before after : List ℕ) → VersionCall first room kept k before 0 after
-    → (take (length first) after ≡ version first room k) × (drop (length first) after ≡ drop (length first) before)
+    → (length (version first room k) ≡ length first) × (take (length first) after ≡ version first room k)
+    × (drop (length first) after ≡ drop (length first) before)
 
--- two changes name one byte of a picture that reads exactly if they say the same port, part and place
-abbrev pub HistoryNamed : List ℕ → Type 0
-HistoryNamed first =
-    numberOf (reading first) ≡ 0 → (c d : Change) (x : ℕ) → byteNamed first c ≡ At x
-    → (byteNamed first d ≡ At x) ↔ ((d .port ≡ c .port) × (d .part ≡ c .part) × (d .at ≡ c .at))
+-- a first picture's "layout places every byte": each byte behind the header is named and no other, and by one port, part and place alone
+pub record HistoryNamed (first : List ℕ) : Type 0 where
+  pub within : (c : Change) (x : ℕ) → byteNamed first c ≡ At x → (16 ≤ x) × (x < length first)
+  pub all : (x : ℕ) → 16 ≤ x → x < length first → (c : Change) × (byteNamed first c ≡ At x)
+  pub once : (c d : Change) (x : ℕ) → byteNamed first c ≡ At x
+      → (byteNamed first d ≡ At x) ↔ ((d .port ≡ c .port) × (d .part ≡ c .part) × (d .at ≡ c .at))

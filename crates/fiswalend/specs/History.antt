@@ -1,19 +1,13 @@
--- 02, Item 11: what the history calls give and leave behind. "A refusal changes nothing."
+-- 02, Item 11: what the history calls give and leave behind.
 use Prim.Native.Nat.{ℕ, _+_}
-use mathlib.Core.Bool.{cond}
 use mathlib.Core.List.{List}
 use mathlib.Core.Path.{_≡_}
-use lib.Dec.{eqb}
 use lib.ListN.{length}
 use Rattle.changes.specs.declared.Change.{Change}
-use Rattle.changes.specs.Adding.{addingNumber, behind}
+use Rattle.changes.specs.Adding.{addingNumber, behind, unlessRefused}
 use Rattle.changes.specs.ReadingBack.{windBackNumber, versionNumber, readBack}
 
--- what is there after a call that ended with a number: what was there before, unless it is 0
-abbrev pub unlessRefused : {E : Type 0} → ℕ → E → E → E
-unlessRefused number after before = cond (eqb number 0) after before
-
--- the room and the number kept, before and after
+-- `kept` is the number lent; `before` and `after` are what the number that is written holds
 pub record AddCall (first : List ℕ) (room run : List Change) (kept before number : ℕ) (roomAfter : List Change) (after : ℕ) : Type 0 where
   pub number-is : number ≡ addingNumber first room run kept
   pub room-is : roomAfter ≡ unlessRefused number (behind room kept run) room

@@ -33,7 +33,7 @@ use Rattle.picture.specs.Reading.{reading, numberOf}
 use Rattle.changes.specs.declared.Change.{Change}
 use Rattle.changes.specs.Change.{byteNamed}
 use Rattle.changes.specs.Versions.{changeAt}
-use Rattle.changes.specs.Adding.{isNone, byteAt, isAnother, roomFull, orNext}
+use Rattle.changes.specs.Adding.{isNone, byteAt, isAnother, roomFull, elseNumber}
 use Rattle.changes.specs.Looking.{heldAfter, heldUpTo, lower}
 use Rattle.changes.proofs.held_after as held-after
 use Rattle.changes.proofs.reading_number as reading-number
@@ -176,8 +176,8 @@ module _ {M : Type 1} (𝓤 : URA M) (H : Heap 𝓤) (A : Atoms 𝓤) (mem : Mem
     abbrev pub adding-to : AddingNumber .Ghost
     adding-to = ((tt, tt, tt, (first, (number, (records, (kept, (count, tt))))), (vint w32 first ∷ [], (vint w32 number ∷ [], (vint w64 records ∷ [], (vint w32 kept ∷ [], (vint w64 count ∷ [], tt)))))), tt)
 
-    pub adding-said : (r : ℕ) → ent 𝓤 (ensured 𝓤 H A adding-number.ended (adding-number.clauses 𝓤 H A mem run) tt (first, (number, (records, (kept, (count, tt))))) tt r) (fact 𝓤 (r ≡ orNext first (orNext number (cond (roomFull records kept count) 39 0))))
-    adding-said r = exE 𝓤 _ (λ ws. snd∗ 𝓤 (sem 𝓤 H A (lasts adding-number.ended tt (first, (number, (records, (kept, (count, tt))))) ws)) (fact 𝓤 (r ≡ orNext first (orNext number (cond (roomFull records kept count) 39 0)))))
+    pub adding-said : (r : ℕ) → ent 𝓤 (ensured 𝓤 H A adding-number.ended (adding-number.clauses 𝓤 H A mem run) tt (first, (number, (records, (kept, (count, tt))))) tt r) (fact 𝓤 (r ≡ elseNumber first (elseNumber number (cond (roomFull records kept count) 39 0))))
+    adding-said r = exE 𝓤 _ (λ ws. snd∗ 𝓤 (sem 𝓤 H A (lasts adding-number.ended tt (first, (number, (records, (kept, (count, tt))))) ws)) (fact 𝓤 (r ≡ elseNumber first (elseNumber number (cond (roomFull records kept count) 39 0)))))
 
     pub adding-goes : Given 𝓤 H A → first < 2 ^ 32 → number < 2 ^ 32 → records < 2 ^ 64 → kept < 2 ^ 32 → count < 2 ^ 64 → ent 𝓤 (emp 𝓤) (AddingNumber .pre adding-to)
     adding-goes W is-first is-number is-records is-kept is-count = qed W [] ∵ nothing ! $ owned ! usize (Is usize) (uint-makes 𝓤 H A W w64) count _ (refl, is-count) $ fjoin ! $ owned ! u32 (Is u32) (uint-makes 𝓤 H A W w32) kept _ (refl, is-kept) $ fjoin ! $ owned ! usize (Is usize) (uint-makes 𝓤 H A W w64) records _ (refl, is-records) $ fjoin ! $ owned ! u32 (Is u32) (uint-makes 𝓤 H A W w32) number _ (refl, is-number) $ fjoin ! $ owned ! u32 (Is u32) (uint-makes 𝓤 H A W w32) first _ (refl, is-first) $ fjoin ! $ nothing ! $ join ! $ frame ! $ done !

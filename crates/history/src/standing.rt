@@ -4,17 +4,15 @@ use crate::records::set_record;
 use changes::Change;
 use changes::as_far;
 use changes::held_in;
-ghost use mathlib.Core.Bool.{cond};
 ghost use mathlib.Core.Path.{_≡_};
 ghost use Prim.Native.Nat.{_+_, _≤_};
-ghost use lib.Dec.{eqb};
 ghost use lib.ListN.{length};
-ghost use Rattle.changes.specs.Adding.{behind};
+ghost use Rattle.changes.specs.Adding.{behind, unlessRefused};
 
 // Writes the run behind the changes kept, unless a number refuses.
 pub fn stand(room: &mut [Change], run: &[Change], kept: u32, number: u32)
     requires { ⌜ (number ≡ 0 → kept + length (now run) ≤ length (now room)) ⌝ }
-    ensures { λ _. ⌜ now (room .exit) ≡ cond (eqb number 0) (behind (now (room .entry)) kept (now (run .entry))) (now (room .entry)) ⌝ }
+    ensures { λ _. ⌜ now (room .exit) ≡ unlessRefused number (behind (now (room .entry)) kept (now (run .entry))) (now (room .entry)) ⌝ }
 {
     let from = held_in(kept, room.len());
     let n = as_far(number, run.len());

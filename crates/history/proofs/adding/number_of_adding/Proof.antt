@@ -49,7 +49,7 @@ use Rattle.picture.specs.Reading.{reading, numberOf}
 use Rattle.changes.specs.declared.Change.{Change}
 use Rattle.changes.specs.Change.{byteNamed}
 use Rattle.changes.specs.Versions.{changeAt, version}
-use Rattle.changes.specs.Adding.{isNone, byteAt, isAnother, runNumber, roomFull, orNext, addingNumber}
+use Rattle.changes.specs.Adding.{isNone, byteAt, isAnother, runNumber, roomFull, elseNumber, addingNumber}
 use Rattle.changes.specs.Looking.{heldUpTo, lower}
 use Rattle.changes.proofs.Change.Laws as T′
 use Rattle.changes.proofs.Held.{number-none, number-small, next-number, adding-by}
@@ -330,7 +330,7 @@ module _ {M : Type 1} (𝓤 : URA M) (H : Heap 𝓤) (A : Atoms 𝓤) (W : Given
           assigns ! (of-opd ! (load ! (from ! (fld ! refl (stop !))) (look-in ! 30 (sub ! 1 refl (whole !))))) (from ! (stop !)) (init ! 6 refl (tt, record { fits = room-z .0 })) $
           calls-plain ! (fmOf 𝓤 H (W .laws) 𝓣) (AddingNumber 𝓤 H A mem run) (known .adding-known) (adding-to 𝓤 H A mem run rd (num (i .0)) (length ys) kept (length zs))
           (adding-goes 𝓤 H A mem run rd (num (i .0)) (length ys) kept (length zs) W rd-fits (num-fits (i .0)) (room-y .0) kept-fits (room-z .0))
-          u32 (vint w32) (uint-tells w32) _ (λ r. r ≡ orNext rd (orNext (num (i .0)) (cond (roomFull (length ys) kept (length zs)) 39 0))) (λ u. id⊢ 𝓤 _) (adding-said 𝓤 H A mem run rd (num (i .0)) (length ys) kept (length zs))
+          u32 (vint w32) (uint-tells w32) _ (λ r. r ≡ elseNumber rd (elseNumber (num (i .0)) (cond (roomFull (length ys) kept (length zs)) 39 0))) (λ u. id⊢ 𝓤 _) (adding-said 𝓤 H A mem run rd (num (i .0)) (length ys) kept (length zs))
           (and-then ! (load ! (from ! (stop !)) (look ! 27 refl)) (and-then ! (load ! (from ! (stop !)) (look ! 21 refl)) (and-then ! (load ! (from ! (stop !)) (look ! 13 refl)) (and-then ! (load ! (from ! (stop !)) (look ! 29 refl)) (and-then ! (load ! (from ! (stop !)) (look ! 7 refl)) (no-more !)))))) (λ r e is.
           land ! (from ! (stop !)) (init ! 36 refl (tt, record { fits = is .1 })) $
           returns ! (look ! 36 refl) $ forget ! 6 refl $ forget ! 10 refl $ forget ! 12 refl $ forget ! 18 refl $ forget ! 20 refl $ forget ! 22 refl $ forget ! 24 refl $ forget ! 26 refl $ forget ! 28 refl $ forget ! 30 refl $ forget ! 32 refl $ forget ! 34 refl $ forget ! 36 refl $
