@@ -7,6 +7,7 @@ use std::fmt;
 use crate::judge::Judge;
 use crate::patch::{part, Part, Slice};
 use crate::picture::Refusal;
+use crate::stream::Stream;
 
 /// What one record of a batch lends or asks.
 #[derive(Clone, Debug, PartialEq, Eq)]
@@ -103,67 +104,41 @@ impl fmt::Display for Record {
 }
 
 /// The records of a batch one after the other; an error where the batch is cut short or no batch.
-pub struct Records<'a> {
-    rest: &'a [u8],
-}
+pub struct Records<'a>(Stream<'a>);
 
 impl<'a> Records<'a> {
     /// The records of these bytes.
     pub fn of(batch: &'a [u8]) -> Records<'a> {
-        Records { rest: batch }
+        Records(Stream::of(batch, "batch"))
     }
+}
 
-    /// Takes so many bytes off the batch.
-    fn take(&mut self, length: usize) -> Result<&'a [u8], String> {
-        if self.rest.len() < length {
-            return Err("the batch is cut short".to_string());
+/// Takes one record.
+fn take_record(stream: &mut Stream) -> Result<Record, String> {
+    match stream.take(1)?[0] {
+        b'P' => Ok(Record::Picture(stream.take_lent()?)),
+        b'Q' => Ok(Record::Patch(stream.take_lent()?)),
+        b'R' => Ok(Record::Report),
+        b'C' => Ok(Record::Check),
+        b'W' => {
+            Ok(Record::Walk { kind: stream.take_4()?, start: stream.take_4()?, target: stream.take_8()? })
         }
-        let (taken, rest) = self.rest.split_at(length);
-        self.rest = rest;
-        Ok(taken)
-    }
-
-    /// Takes a number of 4 bytes.
-    fn take_4(&mut self) -> Result<u32, String> {
-        let bytes = self.take(4)?;
-        Ok(u32::from_le_bytes(bytes.try_into().expect("4 bytes were taken")))
-    }
-
-    /// Takes a number of 8 bytes.
-    fn take_8(&mut self) -> Result<u64, String> {
-        let bytes = self.take(8)?;
-        Ok(u64::from_le_bytes(bytes.try_into().expect("8 bytes were taken")))
-    }
-
-    /// Takes a length and so many bytes.
-    fn take_lent(&mut self) -> Result<Vec<u8>, String> {
-        let length = self.take_4()? as usize;
-        Ok(self.take(length)?.to_vec())
-    }
-
-    /// Takes one record.
-    fn take_record(&mut self) -> Result<Record, String> {
-        match self.take(1)?[0] {
-            b'P' => Ok(Record::Picture(self.take_lent()?)),
-            b'Q' => Ok(Record::Patch(self.take_lent()?)),
-            b'R' => Ok(Record::Report),
-            b'C' => Ok(Record::Check),
-            b'W' => Ok(Record::Walk { kind: self.take_4()?, start: self.take_4()?, target: self.take_8()? }),
-            b'L' => Ok(Record::Claim {
-                port: self.take_4()?,
-                target_kind: self.take_4()?,
-                target: self.take_8()?,
-            }),
-            b'V' => Ok(Record::Conversion { port: self.take_4()?, id: self.take_8()? }),
-            b'H' => Ok(Record::Holders { target_kind: self.take_4()?, target: self.take_8()? }),
-            b'X' => Ok(Record::TrialReport),
-            b'T' => Ok(Record::TrialCheck),
-            b'U' => {
-                Ok(Record::TrialWalk { kind: self.take_4()?, start: self.take_4()?, target: self.take_8()? })
-            }
-            b'S' => Ok(Record::Part { port: self.take_4()?, mechanism: self.take_4()? }),
-            letter => Err(format!("no record begins with byte {letter}")),
-        }
+        b'L' => Ok(Record::Claim {
+            port: stream.take_4()?,
+            target_kind: stream.take_4()?,
+            target: stream.take_8()?,
+        }),
+        b'V' => Ok(Record::Conversion { port: stream.take_4()?, id: stream.take_8()? }),
+        b'H' => Ok(Record::Holders { target_kind: stream.take_4()?, target: stream.take_8()? }),
+        b'X' => Ok(Record::TrialReport),
+        b'T' => Ok(Record::TrialCheck),
+        b'U' => Ok(Record::TrialWalk {
+            kind: stream.take_4()?,
+            start: stream.take_4()?,
+            target: stream.take_8()?,
+        }),
+        b'S' => Ok(Record::Part { port: stream.take_4()?, mechanism: stream.take_4()? }),
+        letter => Err(format!("no record begins with byte {letter}")),
     }
 }
 
@@ -171,14 +146,7 @@ impl Iterator for Records<'_> {
     type Item = Result<Record, String>;
 
     fn next(&mut self) -> Option<Self::Item> {
-        if self.rest.is_empty() {
-            return None;
-        }
-        let record = self.take_record();
-        if record.is_err() {
-            self.rest = &[];
-        }
-        Some(record)
+        self.0.next(take_record)
     }
 }
 

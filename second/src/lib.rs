@@ -43,6 +43,7 @@ pub mod story_answers;
 pub mod story_cases;
 pub mod story_pictures;
 pub mod story_runs;
+pub mod stream;
 pub mod tally;
 pub mod topology;
 pub mod towers;

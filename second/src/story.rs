@@ -2,6 +2,7 @@
 //! the other; and the stream of bytes in which stories follow one another.
 
 use crate::history::Change;
+use crate::stream::Stream;
 
 /// How many bytes a change takes in a stream; the last two are zero.
 const CHANGE_BYTES: usize = 16;
@@ -77,59 +78,40 @@ pub fn packed(change: &Change) -> Vec<u8> {
 }
 
 /// The stories of a stream one after the other; an error where it is cut short or holds something else.
-pub struct Stories<'a> {
-    rest: &'a [u8],
-}
+pub struct Stories<'a>(Stream<'a>);
 
 impl<'a> Stories<'a> {
     /// The stories of these bytes.
     pub fn of(stream: &'a [u8]) -> Stories<'a> {
-        Stories { rest: stream }
+        Stories(Stream::of(stream, "stream of stories"))
     }
+}
 
-    /// Takes so many bytes off the stream.
-    fn take(&mut self, length: usize) -> Result<&'a [u8], String> {
-        if self.rest.len() < length {
-            return Err("the stream of stories is cut short".to_string());
-        }
-        let (taken, rest) = self.rest.split_at(length);
-        self.rest = rest;
-        Ok(taken)
-    }
+/// Takes a number of changes, and so many changes.
+fn take_changes(stream: &mut Stream) -> Result<Vec<Change>, String> {
+    let count = stream.take_4()? as usize;
+    let bytes = stream.take(count * CHANGE_BYTES)?;
+    bytes.chunks(CHANGE_BYTES).map(unpacked).collect()
+}
 
-    /// Takes a number of 4 bytes.
-    fn take_4(&mut self) -> Result<u32, String> {
-        let bytes = self.take(4)?;
-        Ok(u32::from_le_bytes(bytes.try_into().expect("4 bytes were taken")))
+/// Takes a step.
+fn take_step(stream: &mut Stream) -> Result<Step, String> {
+    match stream.take(1)?[0] {
+        1 => Ok(Step::Add(take_changes(stream)?)),
+        2 => Ok(Step::WindBack(stream.take_4()?)),
+        3 => Ok(Step::Version { k: stream.take_4()?, out_len: stream.take_4()? }),
+        4 => Ok(Step::SetKept(stream.take_4()?)),
+        op => Err(format!("there is no step {op}")),
     }
+}
 
-    /// Takes a number of changes, and so many changes.
-    fn take_changes(&mut self) -> Result<Vec<Change>, String> {
-        let count = self.take_4()? as usize;
-        let bytes = self.take(count * CHANGE_BYTES)?;
-        bytes.chunks(CHANGE_BYTES).map(unpacked).collect()
-    }
-
-    /// Takes a step.
-    fn take_step(&mut self) -> Result<Step, String> {
-        match self.take(1)?[0] {
-            1 => Ok(Step::Add(self.take_changes()?)),
-            2 => Ok(Step::WindBack(self.take_4()?)),
-            3 => Ok(Step::Version { k: self.take_4()?, out_len: self.take_4()? }),
-            4 => Ok(Step::SetKept(self.take_4()?)),
-            op => Err(format!("there is no step {op}")),
-        }
-    }
-
-    /// Takes a story.
-    fn take_story(&mut self) -> Result<Story, String> {
-        let length = self.take_4()? as usize;
-        let first = self.take(length)?.to_vec();
-        let room = self.take_changes()?;
-        let kept = self.take_4()?;
-        let steps = (0..self.take_4()?).map(|_| self.take_step()).collect::<Result<_, _>>()?;
-        Ok(Story { first, room, kept, steps })
-    }
+/// Takes a story.
+fn take_story(stream: &mut Stream) -> Result<Story, String> {
+    let first = stream.take_lent()?;
+    let room = take_changes(stream)?;
+    let kept = stream.take_4()?;
+    let steps = (0..stream.take_4()?).map(|_| take_step(stream)).collect::<Result<_, _>>()?;
+    Ok(Story { first, room, kept, steps })
 }
 
 /// The change that 16 bytes stand for.
@@ -145,13 +127,6 @@ impl Iterator for Stories<'_> {
     type Item = Result<Story, String>;
 
     fn next(&mut self) -> Option<Self::Item> {
-        if self.rest.is_empty() {
-            return None;
-        }
-        let story = self.take_story();
-        if story.is_err() {
-            self.rest = &[];
-        }
-        Some(story)
+        self.0.next(take_story)
     }
 }
