@@ -1,4 +1,6 @@
 // The 40 bytes of an answer to the chassis controller: eight that say what was found, then 32 places.
+#![tactic(auto)]
+
 ghost use Rattle.std.specs.Prelude.{◌≡◌};
 ghost use Rattle.answers.specs.Answers.{answer_bytes, no_places, path_places, target_places};
 
@@ -11,7 +13,7 @@ pub const ANSWER_BYTES: usize = 40;
 const NO_PLACE: u8 = 255;
 
 // What stands before the places.
-#[derive(Drop)]
+#[derive(Clone, Copy)]
 pub struct Head {
     pub number: u8,
     pub end: u8,
@@ -22,6 +24,7 @@ pub struct Head {
 }
 
 // An answer that uses no place.
+#[tactic(auto, unfolding(crate::specs::Answers::answer_bytes, crate::specs::Answers::head_bytes, crate::specs::Answers::no_places))]
 pub fn without_places(h: Head) -> [u8; ANSWER_BYTES]
     ensures { result ≡ answer_bytes h no_places }
 {
@@ -40,6 +43,7 @@ pub fn without_places(h: Head) -> [u8; ANSWER_BYTES]
 }
 
 // An answer whose places are those of a path.
+#[tactic(auto, using(crate::proofs::Laws::Filled, crate::proofs::Laws::filled_all, crate::proofs::Laws::filled_more, crate::proofs::Laws::filled_none))]
 pub fn with_path(h: Head, places: [PortNo; 32]) -> [u8; ANSWER_BYTES]
     ensures { result ≡ answer_bytes h (path_places places) }
 {
@@ -54,6 +58,7 @@ pub fn with_path(h: Head, places: [PortNo; 32]) -> [u8; ANSWER_BYTES]
 }
 
 // An answer with a least target in its first 8 places.
+#[tactic(auto, unfolding(crate::specs::Answers::answer_bytes, crate::specs::Answers::head_bytes, crate::specs::Answers::no_places, crate::specs::Answers::target_places))]
 pub fn with_target(h: Head, t: u64) -> [u8; ANSWER_BYTES]
     ensures { result ≡ answer_bytes h (target_places t) }
 {

@@ -1,6 +1,7 @@
 // Words of the command line as numbers.
+#![tactic(auto)]
 
-#[derive(Drop)]
+#[derive(Clone, Copy)]
 pub enum Number {
     Is(u64),
     Bad,

@@ -1,5 +1,7 @@
 // Answers a batch of calls, one line for each, in the form that second/README.md gives: standard input is a stream of records,
 // each a letter and its fields, little-endian.
+#![tactic(auto)]
+
 mod fields;
 mod lines;
 mod trials;
@@ -7,7 +9,7 @@ mod trials;
 use libc::STDIN_FILENO;
 
 // What is kept from record to record: how many bytes of the buffers are the picture and the patch, and whether the batch is over.
-#[derive(Drop)]
+#[derive(Clone, Copy)]
 struct Turn {
     picture: usize,
     patch: usize,

@@ -49,6 +49,7 @@ pub fn entry_of(f: Fpb, m: Mechanism, t: u64) -> Found
 
 // A picture of a root port, an upstream port, and a downstream port, number 2, with buses 3 to 5; the low byte of that
 // port's Device Control 2 is given.
+#[tactic(auto, unfolding(crate::specs::Chain::chain_with, crate::specs::Chain::record_of, crate::specs::Chain::zeros))]
 pub fn chain_with(control: u8) -> [u8; 184]
     ensures { result ≡ chain_with control }
 {

@@ -1,4 +1,6 @@
 // The settled examples C1 to C12, run against the code: a line for each case with what the code answers.
+#![tactic(auto)]
+
 mod given;
 mod print;
 

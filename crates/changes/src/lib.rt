@@ -1,5 +1,7 @@
 // One change of a byte of a picture, and all that a history of changes is made of but the records themselves: which byte a
 // change names, what that byte is after another change, and the numbers 37 to 40.
+#![tactic(auto)]
+
 mod made;
 mod numbers;
 mod places;
@@ -13,7 +15,7 @@ pub use places::byte_named;
 
 // A change as the customer lends it: part 0 is the port's record, 1 its vectors, and `at` counts from the part's start.
 #[repr(C)]
-#[derive(Drop)]
+#[derive(Clone, Copy)]
 pub struct Change {
     pub port: u32,
     pub part: u32,

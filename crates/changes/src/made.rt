@@ -22,6 +22,7 @@ pub fn first_byte(first: &[u8], c: Change) -> u8
 }
 
 // What the byte that c names is after a change was made, if it was `held` before.
+#[tactic(auto, unfolding(crate::specs::Looking::held_after))]
 pub fn held_after(done: Change, c: Change, held: u8) -> u8
     ensures { result ≡ held_after done c held }
 {
@@ -33,6 +34,7 @@ pub fn held_after(done: Change, c: Change, held: u8) -> u8
 }
 
 // Makes a change.
+#[tactic(auto, unfolding(crate::specs::Versions::made))]
 pub fn make_change(first: &[u8], out: &mut [u8], c: Change)
     requires { count_of first.now ≤ 64 }
     ensures { out.new ≡ made first.now c out.old }

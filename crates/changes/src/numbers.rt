@@ -72,6 +72,7 @@ fn worst(number: u32, wrong: bool) -> u32
 }
 
 // Whether the changes kept and some more outnumber the records.
+#[tactic(auto, using(crate::proofs::Rooms::full_already, crate::proofs::Rooms::full_by_rest))]
 fn outnumber(records: usize, kept: u32, count: usize) -> bool
     ensures { result ≡ ltb records (kept + count) }
 {
@@ -82,6 +83,7 @@ fn outnumber(records: usize, kept: u32, count: usize) -> bool
 }
 
 // Number 39: whether a room has no place for some changes more.
+#[tactic(auto, unfolding(crate::specs::Adding::room_full))]
 fn room_full(records: usize, kept: u32, count: usize) -> bool
     ensures { result ≡ room_full records kept count }
 {
@@ -113,6 +115,7 @@ pub fn wind_back_number(kept: u32, k: u32) -> u32
 }
 
 // The number that reading version k back ends with.
+#[tactic(auto, unfolding(crate::specs::ReadingBack::version_number))]
 pub fn version_number(first: &[u8], records: usize, buffer: usize, kept: u32, k: u32) -> u32
     ensures { result ≡ version_number first.now records buffer kept k }
 {

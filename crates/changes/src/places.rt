@@ -15,6 +15,7 @@ const IN_RECORD: u32 = 0;
 const IN_VECTORS: u32 = 1;
 
 // How many bytes a part of a port has. A record ends where the next one starts.
+#[tactic(auto, using(picture::proofs::Laws::all_bytes_same, crate::proofs::Named::record_first, crate::proofs::Named::record_size), unfolding(crate::specs::Change::part_bytes))]
 fn part_bytes(first: &[u8], p: PortNo, part: u32) -> u64
     ensures { result ≡ part_bytes first.now p.0 part }
 {
@@ -29,6 +30,7 @@ fn part_bytes(first: &[u8], p: PortNo, part: u32) -> u64
 }
 
 // Where it starts.
+#[tactic(auto, unfolding(crate::specs::Change::part_start))]
 fn part_start(first: &[u8], p: PortNo, part: u32) -> u64
     ensures value { result ≡ part_start first.now p.0 part }
     ensures upper_bound { result < 2 ^ 32 }
@@ -41,6 +43,7 @@ fn part_start(first: &[u8], p: PortNo, part: u32) -> u64
 }
 
 // The byte that a change names, of a picture that can have so many ports.
+#[tactic(auto, unfolding(crate::specs::Change::byte_named))]
 pub fn byte_named(first: &[u8], c: Change) -> Found
     requires { count_of first.now ≤ 64 }
     ensures { result ≡ byte_named first.now c }

@@ -115,7 +115,7 @@ module _ (c d : Chassis) (alike : Alike c d) (sane : Sane c.tree) where
   least_alike : {fault : Fault} {t : Target} {p : PortNo} → LeastAt fault c t p → LeastAt fault d t p
   least_alike {fault} {t} x =
       record {
-        in-range = x.in_range;
+        in_range = x.in_range;
         passes = sym (faulty_alike fault t) ∙ x.passes;
         first = λ u l. sym (faulty_alike fault u) ∙ x.first u l;
         port = lowest_agree alike.trees.count (at_fault_alike fault t) x.port;

@@ -37,7 +37,7 @@ module _ (c : Chassis) (t : Target) (sane : Sane c.tree) (clean : Clean c t) whe
         path = path;
         walk = k;
         short = le_trans (walk_short c (Plain t) sane l k) (left_most c w);
-        no-two-holders = no_two w;
+        no_two_holders = no_two w;
       }
 
   from_device_too : (e : End) (path : List PortNo) → Walk c (Plain t) Root path e → (d : PortNo)
@@ -55,7 +55,7 @@ module _ (c : Chassis) (t : Target) (sane : Sane c.tree) (clean : Clean c t) whe
       let host = walk_exists c (Plain t) sane Root tt in
       record {
         end = host.end;
-        from-host = comes host.path tt host.walk;
-        from-device = from_device_too host.end host.path host.walk;
-        own-device = λ d device claimed. (own_start_refused c t sane d device claimed, no_two (starts_at c (Plain t) d.0));
+        from_host = comes host.path tt host.walk;
+        from_device = from_device_too host.end host.path host.walk;
+        own_device = λ d device claimed. (own_start_refused c t sane d device claimed, no_two (starts_at c (Plain t) d.0));
       }

@@ -48,7 +48,7 @@ module _ (c : Chassis) (fault : Fault) where
   -- the least of a space is the least of all where the space is that of IDs, or no ID is faulty
   least_id : (n : ℕ) → least_target (faulty fault c) Ids ≡ At n
       → LeastAt fault c (target_in Ids n) (lowest_port c (at_fault fault c (target_in Ids n)))
-  least_id n e = record { in-range = least.below; passes = least.holds; first = first; port = at_fault_lem (target_in Ids n) least.holds }
+  least_id n e = record { in_range = least.below; passes = least.holds; first = first; port = at_fault_lem (target_in Ids n) least.holds }
     where
       least : FirstAt (λ (m : ℕ). faulty fault c (target_in Ids m)) 0 (2 ^ 16) n
       least = (least_target_is (faulty fault c) Ids (At n)).0 e
@@ -60,7 +60,7 @@ module _ (c : Chassis) (fault : Fault) where
   least_address : (n : ℕ) → least_target (faulty fault c) Ids ≡ Nothing → least_target (faulty fault c) Addresses ≡ At n
       → LeastAt fault c (target_in Addresses n) (lowest_port c (at_fault fault c (target_in Addresses n)))
   least_address n none e =
-      record { in-range = least.below; passes = least.holds; first = first; port = at_fault_lem (target_in Addresses n) least.holds }
+      record { in_range = least.below; passes = least.holds; first = first; port = at_fault_lem (target_in Addresses n) least.holds }
     where
       least : FirstAt (λ (m : ℕ). faulty fault c (target_in Addresses m)) 0 (2 ^ 64) n
       least = (least_target_is (faulty fault c) Addresses (At n)).0 e

@@ -6,6 +6,7 @@ use crate::{Decoders, Hold};
 
 impl Decoders {
     // Whether at least one decoder claims the target.
+    #[tactic(auto, unfolding(crate::specs::Chassis::at_least_one))]
     pub fn at_least_one(self) -> bool
         ensures { result ≡ at_least_one self }
     {
@@ -15,6 +16,7 @@ impl Decoders {
 
 impl Hold {
     // Whether the port holds the target.
+    #[tactic(auto, unfolding(crate::specs::Chassis::is_held))]
     pub fn is_held(self) -> bool
         ensures { result ≡ is_held self }
     {

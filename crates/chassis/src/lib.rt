@@ -1,4 +1,6 @@
 // What a packet meets on its way through a chassis, and where it ends. The rules themselves are definitions, in specs/.
+#![tactic(auto)]
+
 mod findings;
 mod joined;
 
@@ -13,14 +15,14 @@ pub const UPSTREAM: u8 = 1;
 pub const DOWNSTREAM: u8 = 2;
 
 // What is sent: a packet routed by its target, or a configuration request for an ID.
-#[derive(Drop)]
+#[derive(Clone, Copy)]
 pub enum Packet {
     Plain(Target),
     Config(Rid),
 }
 
 // The ports of a place that have to do with a target: none, one, or the two lowest.
-#[derive(Drop)]
+#[derive(Clone, Copy)]
 pub enum Holders {
     Nobody,
     Only(PortNo),
@@ -28,7 +30,7 @@ pub enum Holders {
 }
 
 // The decoders of a port that claim a target, each by its name.
-#[derive(Drop)]
+#[derive(Clone, Copy)]
 pub struct Decoders {
     pub bus: bool,
     pub rid: bool,
@@ -40,7 +42,7 @@ pub struct Decoders {
 }
 
 // What a port has to do with a target: it is the port's own ID, which is no claim, and these decoders claim it.
-#[derive(Drop)]
+#[derive(Clone, Copy)]
 pub struct Hold {
     pub port: PortNo,
     pub own: bool,
@@ -48,7 +50,7 @@ pub struct Hold {
 }
 
 // What a port makes of a configuration request that it is about to be crossed by.
-#[derive(Drop)]
+#[derive(Clone, Copy)]
 pub enum Conversion {
     NotClaimed,
     Type0,
@@ -57,7 +59,7 @@ pub enum Conversion {
 }
 
 // Where a packet ends. The number of a Device is its Function number, used by configuration requests alone.
-#[derive(Drop)]
+#[derive(Clone, Copy)]
 pub enum End {
     Device(PortNo, u8),
     Function(PortNo),
@@ -68,7 +70,7 @@ pub enum End {
 
 // Where a packet is: at the root; below a port, come from above; below it, started there or come from below; below it,
 // redirected to the root; below it as a configuration request of Type 0 or of Type 1.
-#[derive(Drop)]
+#[derive(Clone, Copy)]
 pub enum Whereabouts {
     Root,
     Into(PortNo),
@@ -79,7 +81,7 @@ pub enum Whereabouts {
 }
 
 // What a packet does next: it stops at its end, or crosses a port and is elsewhere.
-#[derive(Drop)]
+#[derive(Clone, Copy)]
 pub enum Step {
     Stop(End),
     Cross(PortNo, Whereabouts),
@@ -87,7 +89,7 @@ pub enum Step {
 
 // What the check looks for at a target: 11 and 12, two ports that hold it; 13 and 14, a port that strays; 18, a port that claims
 // it and whose parent takes configuration requests for it.
-#[derive(Drop)]
+#[derive(Clone, Copy)]
 pub enum Fault {
     Shared,
     Stray,
@@ -95,7 +97,7 @@ pub enum Fault {
 }
 
 // The rows of the table that the check looks at: a fault at a target of a space, and 15, an own ID that is lost.
-#[derive(Drop)]
+#[derive(Clone, Copy)]
 pub enum Row {
     At(Fault, Space),
     Lost,
@@ -103,7 +105,7 @@ pub enum Row {
 
 // What the check finds: numbers 11 and 12 with the least target and the first pair, 13, 14 and 18 with the least target and
 // the port, each port with its hold on the target; 15 with the port.
-#[derive(Drop)]
+#[derive(Clone, Copy)]
 pub enum Verdict {
     Clear,
     Shared(Target, Hold, Hold),
@@ -113,14 +115,14 @@ pub enum Verdict {
 }
 
 // The least target that a number of the table shows, where it shows one.
-#[derive(Drop)]
+#[derive(Clone, Copy)]
 pub enum Shown {
     NoTarget,
     Least(Target),
 }
 
 // The ports that a number of the table names: none, one alone, or one or two by their hold on the target that it shows.
-#[derive(Drop)]
+#[derive(Clone, Copy)]
 pub enum Named {
     NoPort,
     Port(PortNo),
@@ -129,7 +131,7 @@ pub enum Named {
 }
 
 // A number of the table, with the target that it shows and the ports that it names.
-#[derive(Drop)]
+#[derive(Clone, Copy)]
 pub struct Finding {
     pub number: u8,
     pub target: Shown,

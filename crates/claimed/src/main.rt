@@ -1,4 +1,6 @@
 // claims id|addr TARGET: who holds a target in the picture on standard input, and by what. TARGET is a number in hexadecimal.
+#![tactic(auto)]
+
 use arguments::Number;
 use libc::{STDERR_FILENO, STDIN_FILENO};
 

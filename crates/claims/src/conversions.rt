@@ -28,6 +28,7 @@ pub fn secondary_units(f: Fpb) -> u16
 }
 
 // Whether an ID is in a port's Secondary range: units of an upstream port, a bus with ARI, else one unit.
+#[tactic(auto, using(crate::proofs::Laws::last_unit), unfolding(crate::specs::Conversion::in_secondary_range))]
 pub fn in_secondary_range(p: Port, rid: Rid) -> bool
     ensures { result ≡ in_secondary_range p rid.0 }
 {
@@ -44,6 +45,7 @@ pub fn in_secondary_range(p: Port, rid: Rid) -> bool
 }
 
 // What the bus pair makes of an ID that the port claims, where the Secondary range does not decide.
+#[tactic(auto, unfolding(crate::specs::Conversion::converted_by_bus))]
 pub fn converted_by_bus(p: Port, rid: Rid) -> Conversion
     ensures { result ≡ converted_by_bus p rid.0 }
 {
@@ -58,6 +60,7 @@ pub fn converted_by_bus(p: Port, rid: Rid) -> Conversion
 }
 
 // What port p makes of a configuration request for an ID.
+#[tactic(auto, unfolding(crate::specs::Conversion::converted))]
 fn converted_id<'a>(s: &'a [u8], patch: &'a [u8], p: PortNo, rid: Rid) -> Conversion
     ensures { result ≡ converted (port_at s.now p.0) (vector_over s.now patch.now p.0) rid.0 }
 {

@@ -11,6 +11,7 @@ pub const VIDEO_FIRST: u64 = 0xA0000;
 pub const VIDEO_LAST: u64 = 0xBFFFF;
 
 // The bus pair; 0, 0 claims nothing.
+#[tactic(auto, unfolding(crate::specs::Decoders::bus_claims))]
 pub fn bus_claims(b: Bridge, rid: Rid) -> bool
     ensures { result ≡ bus_claims b rid.0 }
 {
@@ -19,6 +20,7 @@ pub fn bus_claims(b: Bridge, rid: Rid) -> bool
 }
 
 // A vector: its mechanism is enabled, and the entry that applies to the target is set.
+#[tactic(auto, unfolding(crate::specs::Decoders::vector_claims))]
 pub fn vector_claims(f: Fpb, m: Mechanism, v: &[u8], t: u64) -> bool
     ensures { result ≡ vector_claims f m v.now t }
 {
@@ -34,6 +36,7 @@ pub fn base_of(register: u16) -> u64
 }
 
 // Memory Base..Limit; a limit fills its low 20 bits with ones.
+#[tactic(auto, unfolding(crate::specs::Decoders::memory_claims))]
 pub fn memory_claims(b: Bridge, a: u64) -> bool
     ensures { result ≡ memory_claims b a }
 {
@@ -53,6 +56,7 @@ pub fn upper_of(b: Bridge, upper: u32) -> u64
 }
 
 // Prefetchable Base..Limit.
+#[tactic(auto, unfolding(crate::specs::Decoders::prefetchable_claims))]
 pub fn prefetchable_claims(b: Bridge, a: u64) -> bool
     ensures { result ≡ prefetchable_claims b a }
 {
@@ -62,6 +66,7 @@ pub fn prefetchable_claims(b: Bridge, a: u64) -> bool
 }
 
 // The MEM Low vector, below 4 GiB alone.
+#[tactic(auto, unfolding(crate::specs::Decoders::low_claims))]
 pub fn low_claims(f: Fpb, v: &[u8], a: u64) -> bool
     ensures { result ≡ low_claims f v.now a }
 {
@@ -69,6 +74,7 @@ pub fn low_claims(f: Fpb, v: &[u8], a: u64) -> bool
 }
 
 // The MEM High vector, from 4 GiB up alone.
+#[tactic(auto, unfolding(crate::specs::Decoders::high_claims))]
 pub fn high_claims(f: Fpb, v: &[u8], a: u64) -> bool
     ensures { result ≡ high_claims f v.now a }
 {
@@ -76,6 +82,7 @@ pub fn high_claims(f: Fpb, v: &[u8], a: u64) -> bool
 }
 
 // VGA Enable, bit 3 of Bridge Control.
+#[tactic(auto, unfolding(crate::specs::Decoders::vga_enabled))]
 pub fn vga_enabled(b: Bridge) -> bool
     ensures { result ≡ vga_enabled b }
 {
@@ -83,6 +90,7 @@ pub fn vga_enabled(b: Bridge) -> bool
 }
 
 // The video range, with VGA Enable.
+#[tactic(auto, unfolding(crate::specs::Decoders::video_claims))]
 pub fn video_claims(b: Bridge, a: u64) -> bool
     ensures { result ≡ video_claims b a }
 {
@@ -90,6 +98,7 @@ pub fn video_claims(b: Bridge, a: u64) -> bool
 }
 
 // Without it no memory decoder of the port claims anything.
+#[tactic(auto, unfolding(crate::specs::Decoders::memory_space_enabled))]
 pub fn memory_space_enabled(b: Bridge) -> bool
     ensures { result ≡ memory_space_enabled b }
 {

@@ -1,4 +1,6 @@
 // What a port claims, by its decoders, and what it holds and converts; each answer is a handful of reads.
+#![tactic(auto)]
+
 mod conversions;
 mod decoders;
 
@@ -40,6 +42,7 @@ fn no_decoders() -> Decoders
 }
 
 // The decoders of port p that claim an ID: its bus pair, its RID vector.
+#[tactic(auto, unfolding(crate::specs::Decoders::id_decoders))]
 fn id_decoders<'a>(s: &'a [u8], patch: &'a [u8], p: PortNo, rid: Rid) -> Decoders
     ensures { result ≡ id_decoders (port_at s.now p.0) (vector_over s.now patch.now p.0) rid.0 }
 {
@@ -54,6 +57,7 @@ fn id_decoders<'a>(s: &'a [u8], patch: &'a [u8], p: PortNo, rid: Rid) -> Decoder
 }
 
 // The decoders of port p that claim an address; without Memory Space Enable none does.
+#[tactic(auto, unfolding(crate::specs::Decoders::address_decoders))]
 fn address_decoders<'a>(s: &'a [u8], patch: &'a [u8], p: PortNo, a: u64) -> Decoders
     ensures { result ≡ address_decoders (port_at s.now p.0) (vector_over s.now patch.now p.0) a }
 {
@@ -99,6 +103,7 @@ pub fn is_own(s: &[u8], p: PortNo, t: Target) -> bool
 }
 
 // Whether the target is port p's own or claimed by it.
+#[tactic(auto, unfolding(chassis::specs::Chassis::holds))]
 pub fn holds<'a>(s: &'a [u8], patch: &'a [u8], p: PortNo, t: Target) -> bool
     ensures { result ≡ holds (chassis_over s.now patch.now) t p.0 }
 {
@@ -117,6 +122,7 @@ pub fn hold_of<'a>(s: &'a [u8], patch: &'a [u8], p: PortNo, t: Target) -> Hold
 }
 
 // Whether port p claims the video range, whatever the patch; two reads of its record.
+#[tactic(auto, using(crate::proofs::Joined::vga_of_address, crate::proofs::OfVideo::video_inside), unfolding(crate::specs::Decoders::memory_space_enabled, crate::specs::Decoders::vga_enabled))]
 pub fn claims_video(s: &[u8], p: PortNo) -> bool
     ensures { (patch : List ℕ) → result ≡ ((chassis_over s.now patch).decoders p.0 (Addr video_first)).vga }
 {

@@ -1,5 +1,7 @@
 // Which ports the check names: the first pair at a shared target, and the lowest port that strays, whose own ID is lost, or
 // whose parent takes what it claims; and whether one port is at fault at a target.
+#![tactic(auto)]
+
 mod faults;
 mod pairs;
 mod ports;

@@ -10,13 +10,14 @@ use claims::{claims, holds, is_own};
 use ids::{PortNo, Target};
 use registers::parent_at;
 
-#[derive(Drop)]
+#[derive(Clone, Copy)]
 pub struct Pair {
     pub first: PortNo,
     pub second: PortNo,
 }
 
 // Whether two siblings hold the target, or a port claims its own ID.
+#[tactic(auto, unfolding(chassis::specs::Check::clash))]
 fn clashes<'a>(s: &'a [u8], patch: &'a [u8], t: Target, p: PortNo, q: PortNo) -> bool
     ensures { result ≡ clash (chassis_over s.now patch.now) t p.0 q.0 }
 {
@@ -30,6 +31,7 @@ fn clashes<'a>(s: &'a [u8], patch: &'a [u8], t: Target, p: PortNo, q: PortNo) ->
 }
 
 // Whether port p shares the target with one of n ports, or claims it as its own ID.
+#[tactic(auto, using(least::proofs::Laws::NoneIn, crate::proofs::FirstPair::clashing_with, least::proofs::Laws::none_empty, least::proofs::Laws::none_more, crate::proofs::FirstPair::tried))]
 pub fn clashes_with<'a>(s: &'a [u8], patch: &'a [u8], n: u8, t: Target, p: PortNo) -> bool
     requires { n ≡ count_of s.now }
     ensures { result ≡ clashes_with (chassis_over s.now patch.now) t p.0 }
@@ -45,6 +47,7 @@ pub fn clashes_with<'a>(s: &'a [u8], patch: &'a [u8], n: u8, t: Target, p: PortN
 }
 
 // The first pair at a target that is shared, by first port and then second, a port with itself tried too.
+#[tactic(auto, using(least::proofs::Laws::NoneIn, least::proofs::Laws::none_empty, least::proofs::Laws::none_more, crate::proofs::FirstPair::pair_here, crate::proofs::FirstPair::port_left, crate::proofs::FirstPair::tried))]
 pub fn first_pair<'a>(s: &'a [u8], patch: &'a [u8], n: u8, t: Target) -> Pair
     requires n_value { n ≡ count_of s.now }
     requires t_value { faulty Shared (chassis_over s.now patch.now) t ≡ true }

@@ -14,7 +14,7 @@ use least::Found;
 use registers::{kind_at, own_id_at, parent_at};
 
 // What may be wrong with a port by itself.
-#[derive(Drop)]
+#[derive(Clone, Copy)]
 pub enum PortFault {
     Stray(Target),
     Lost,
@@ -22,6 +22,7 @@ pub enum PortFault {
 }
 
 // Whether port p is no root port and holds a target that its parent does not claim.
+#[tactic(auto, unfolding(chassis::specs::Check::strays_at))]
 pub fn strays_at<'a>(s: &'a [u8], patch: &'a [u8], t: Target, p: PortNo) -> bool
     ensures { result ≡ strays_at (chassis_over s.now patch.now) t p.0 }
 {
@@ -41,6 +42,7 @@ fn is_type0(made: Conversion) -> bool
 }
 
 // Whether port p is no root port and its parent does not claim its own ID and convert it to Type 0.
+#[tactic(auto, unfolding(chassis::specs::Check::own_id_lost))]
 fn own_id_lost<'a>(s: &'a [u8], patch: &'a [u8], p: PortNo) -> bool
     ensures { result ≡ own_id_lost (chassis_over s.now patch.now) p.0 }
 {
@@ -62,6 +64,7 @@ fn has_fault<'a>(s: &'a [u8], patch: &'a [u8], fault: PortFault, p: PortNo) -> b
 }
 
 // The lowest of n ports that has a fault.
+#[tactic(auto, using(least::proofs::Laws::NoneIn, least::proofs::Laws::at_is, least::proofs::Laws::none_empty, least::proofs::Laws::none_is, least::proofs::Laws::none_more, least::proofs::Laws::none_part))]
 pub fn lowest<'a>(s: &'a [u8], patch: &'a [u8], n: u8, fault: PortFault) -> Found
     requires { n ≡ count_of s.now }
     ensures { result ≡ first_in (has_fault fault (chassis_over s.now patch.now)) 0 (count_of s.now) }
@@ -77,6 +80,7 @@ pub fn lowest<'a>(s: &'a [u8], patch: &'a [u8], n: u8, fault: PortFault) -> Foun
 }
 
 // The same by its number, 255 where none has it.
+#[tactic(auto, using(crate::proofs::LowestPort::port_small))]
 pub fn lowest_port<'a>(s: &'a [u8], patch: &'a [u8], n: u8, fault: PortFault) -> PortNo
     requires { n ≡ count_of s.now }
     ensures { result ≡ lowest_port (chassis_over s.now patch.now) (has_fault fault (chassis_over s.now patch.now)) }

@@ -21,6 +21,7 @@ fn takes(made: Conversion) -> bool
 }
 
 // Whether port p is no root port and claims an ID that its parent takes; no port takes an address.
+#[tactic(auto, using(crate::proofs::AsAsked::taken_as_asked))]
 pub fn taken_at<'a>(s: &'a [u8], patch: &'a [u8], t: Target, p: PortNo) -> bool
     ensures { result ≡ taken_at (chassis_over s.now patch.now) t p.0 }
 {

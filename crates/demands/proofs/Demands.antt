@@ -194,8 +194,8 @@ demand_1_buffer s before =
       walk = λ kind start target.
           let a = answered s kind start target in
           one_walk before (WalkGives s kind start target) (walk_only s kind start target) a.0 a.1;
-      trial-check = λ patch. one_check before (trial_check s patch);
-      trial-walk = λ patch kind start target.
+      trial_check = λ patch. one_check before (trial_check s patch);
+      trial_walk = λ patch kind start target.
           let a = tried s patch kind start target in
           one_walk before (TrialGives s patch kind start target) (trial_only s patch kind start target) a.0 a.1;
     }
@@ -246,7 +246,7 @@ module _ (c : Chassis) where
   -- 11 and 12 are the numbers of a shared target, and no other verdict leaves one unseen
   overlap_told : (v : Verdict) → Says c v → Either (finding_of v).number → Overlap c
   overlap_told (Shared t p q) says e =
-      record { target = t; in-range = says.0.in_range; clashing = (shared_true c t).0 says.0.passes }
+      record { target = t; in_range = says.0.in_range; clashing = (shared_true c t).0 says.0.passes }
   overlap_told Clear says e = ⊎_elim (λ x. absurd (omega arith)) (λ x. absurd (omega arith)) e
   overlap_told (Stray (Id rid) p) says e = ⊎_elim (λ x. absurd (omega arith)) (λ x. absurd (omega arith)) e
   overlap_told (Stray (Addr a) p) says e = ⊎_elim (λ x. absurd (omega arith)) (λ x. absurd (omega arith)) e

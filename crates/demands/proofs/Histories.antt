@@ -43,7 +43,7 @@ history_numbers first =
     record {
       adding = λ room run kept. adding (eqb (number_of (reading first)) 0) (any_below (names_none first run) (length run)) (any_below (old_wrong first (version first room kept) run) (length run)) (room_full (length room) kept (length run));
       winding = λ kept k. winding (ltb kept k);
-      reading-back = λ records buffer kept k. back (eqb (number_of (reading first)) 0) (ltb kept k || ltb records kept) (ltb buffer (length first));
+      reading_back = λ records buffer kept k. back (eqb (number_of (reading first)) 0) (ltb kept k || ltb records kept) (ltb buffer (length first));
     }
   where
     adding : (a b c d : Bool) → one_of (of_reading ++ (37 ∷ 38 ∷ 39 ∷ [])) (cond a (cond (eqb (cond b 37 (cond c 38 0)) 0) (cond d 39 0) (cond b 37 (cond c 38 0))) (number_of (reading first))) ≡ true
@@ -70,7 +70,7 @@ history_added first room run kept z =
       as_long = behind_length first room run kept fits;
       before = before_kept first room run kept fits;
       above = above_kept first room run kept fits;
-      each = λ i l. let so = changes_so first room run kept z i l in record { place = so.0; names = so.1.0; old-there = so.1.1; new-there = so.1.2 };
+      each = λ i l. let so = changes_so first room run kept z i l in record { place = so.0; names = so.1.0; old_there = so.1.1; new_there = so.1.2 };
     }
 
 pub history_wound_back : (first : List ℕ) → HistoryWoundBack first
@@ -91,7 +91,7 @@ history_refused first =
     record {
       adding = λ room run after kept before number now call refused. (call.room_is ∙ simp (ne_eqb number 0 refused), call.kept_is ∙ simp (ne_eqb number 0 refused));
       winding = λ kept k before number now call refused. call.kept_is ∙ simp (ne_eqb number 0 refused);
-      reading-back = λ room kept k number before after call refused. call.buffer_is ∙ simp (ne_eqb number 0 refused);
+      reading_back = λ room kept k number before after call refused. call.buffer_is ∙ simp (ne_eqb number 0 refused);
     }
 
 pub history_read_back : (first : List ℕ) → HistoryReadBack first

@@ -193,7 +193,7 @@ says_taken = (
   none_shared 0x40,
   none_stray 0x40,
   (any_below_false (own_id_lost (chassis_of taken_chain)) 3).0 taken_kept,
-  record { in-range = omega arith; passes = refl; first = first; port = record { below = omega arith; passes = refl; first = lower } },
+  record { in_range = omega arith; passes = refl; first = first; port = record { below = omega arith; passes = refl; first = lower } },
   refl,
 )
   where
@@ -214,8 +214,8 @@ pub chain_walks : ChainWalks
 unfolding zeros u16 u32 bridge_of chain_from u16_at u32_at bridge_at fpb_at port_at record_at with_ari settings_of vector_bytes vector_of is_set hits bus_claims vector_claims id_decoders at_least_one in_secondary_range converted_by_bus converted holds with_port lowest_two passes_at any_below is_device_port function_number decided downward by_holders sole_holder device_or come_to is_redirected under_type0 under_type1 next packet_of id_too_large is_start asked_wrongly
 chain_walks =
     record {
-      upstream-found = given found_chain three_ports (chain_reads 0x20) 2 255 0x0100 (0 ∷ []) (Function (port_no 1)) refl (goes refl (ends refl));
-      downstream-found = given found_chain three_ports (chain_reads 0x20) 2 255 0x0200 (0 ∷ 1 ∷ []) (Function (port_no 2)) refl (goes refl (goes refl (ends refl)));
-      upstream-still = given taken_chain three_ports (chain_reads 0x40) 2 255 0x0100 (0 ∷ []) (Function (port_no 1)) refl (goes refl (ends refl));
-      downstream-lost = given taken_chain three_ports (chain_reads 0x40) 2 255 0x0200 (0 ∷ []) (Unsupported (port_no 0)) refl (goes refl (ends refl));
+      upstream_found = given found_chain three_ports (chain_reads 0x20) 2 255 0x0100 (0 ∷ []) (Function (port_no 1)) refl (goes refl (ends refl));
+      downstream_found = given found_chain three_ports (chain_reads 0x20) 2 255 0x0200 (0 ∷ 1 ∷ []) (Function (port_no 2)) refl (goes refl (goes refl (ends refl)));
+      upstream_still = given taken_chain three_ports (chain_reads 0x40) 2 255 0x0100 (0 ∷ []) (Function (port_no 1)) refl (goes refl (ends refl));
+      downstream_lost = given taken_chain three_ports (chain_reads 0x40) 2 255 0x0200 (0 ∷ []) (Unsupported (port_no 0)) refl (goes refl (ends refl));
     }

@@ -57,14 +57,14 @@ pub redirect_walks : RedirectWalks
 unfolding zeros u16 u32 header_in record_of redirecting u16_at u32_at bridge_at fpb_at port_at record_at with_ari with_redirect bus_claims vector_claims memory_claims prefetchable_claims low_claims high_claims vga_enabled video_claims memory_space_enabled id_decoders at_least_one address_decoders in_secondary_range converted_by_bus converted holds with_port lowest_two passes_at any_below is_device_port function_number decided downward by_holders sole_holder device_or come_to is_redirected towards_root upward from_below under_type0 under_type1 next target_asked packet_of id_too_large is_start asked_wrongly
 redirect_walks =
     record {
-      down-again = walks 4 1 3 0xE0000000 (3 ∷ 1 ∷ 0 ∷ 0 ∷ 1 ∷ 2 ∷ []) (Device (port_no 2) 0) refl
+      down_again = walks 4 1 3 0xE0000000 (3 ∷ 1 ∷ 0 ∷ 0 ∷ 1 ∷ 2 ∷ []) (Device (port_no 2) 0) refl
           (goes refl (goes refl (goes refl (goes refl (goes refl (goes refl (ends refl)))))));
-      to-host = walks 4 1 3 0 (3 ∷ 1 ∷ 0 ∷ []) Host refl (goes refl (goes refl (goes refl (ends refl))));
-      other-bits = walks 0xFFFB 1 3 0xE0000000 (3 ∷ 2 ∷ []) (Device (port_no 2) 0) refl (goes refl (goes refl (ends refl)));
-      own-device = walks 4 1 2 0xE0000000 [] (Unsupported (port_no 2)) refl (ends refl);
-      id-across = walks 4 0 3 0x0300 (3 ∷ 2 ∷ []) (Device (port_no 2) 0) refl (goes refl (goes refl (ends refl)));
-      config-refused = walks 4 2 3 0x0300 [] (Unsupported (port_no 3)) refl (ends refl);
-      from-host = walks 4 1 255 0xE0000000 (0 ∷ 1 ∷ 2 ∷ []) (Device (port_no 2) 0) refl (goes refl (goes refl (goes refl (ends refl))));
+      to_host = walks 4 1 3 0 (3 ∷ 1 ∷ 0 ∷ []) Host refl (goes refl (goes refl (goes refl (ends refl))));
+      other_bits = walks 0xFFFB 1 3 0xE0000000 (3 ∷ 2 ∷ []) (Device (port_no 2) 0) refl (goes refl (goes refl (ends refl)));
+      own_device = walks 4 1 2 0xE0000000 [] (Unsupported (port_no 2)) refl (ends refl);
+      id_across = walks 4 0 3 0x0300 (3 ∷ 2 ∷ []) (Device (port_no 2) 0) refl (goes refl (goes refl (ends refl)));
+      config_refused = walks 4 2 3 0x0300 [] (Unsupported (port_no 3)) refl (ends refl);
+      from_host = walks 4 1 255 0xE0000000 (0 ∷ 1 ∷ 2 ∷ []) (Device (port_no 2) 0) refl (goes refl (goes refl (goes refl (ends refl))));
     }
 
 -- the ports of both editions are alike, and so the check gives both the same verdict

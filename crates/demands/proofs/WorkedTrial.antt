@@ -110,7 +110,7 @@ unfolding zeros u16 u32 one_port own_entry u16_at u32_at bridge_at fpb_at port_a
 own_overlaps =
     record {
       target = id 0x0008;
-      in-range = omega arith;
+      in_range = omega arith;
       clashing =
           record {
             first = 0;
@@ -137,7 +137,7 @@ own_by_rid =
 -- no ID below its own is at fault, and there is only this port
 says_own : Says (chassis_of (patched one_port own_entry)) (Found-as-Shared (id 0x0008) own_by_rid own_by_rid)
 unfolding zeros u16 u32 one_port own_entry u16_at u32_at bridge_at fpb_at port_at record_at settings_of vector_bytes row_at port_in offset_at put_in new_vectors patched_to vector_of is_set hits bus_claims vector_claims id_decoders at_least_one any_below clash clashes_with faulty
-says_own = (record { in-range = omega arith; passes = refl; first = first; port = sole refl }, sole refl, refl, refl)
+says_own = (record { in_range = omega arith; passes = refl; first = first; port = sole refl }, sole refl, refl, refl)
   where
     first : (u : Target) → Earlier u (id 0x0008) → faulty Shared (chassis_of (patched one_port own_entry)) u ≡ false
     first (Id m) below = rw (ne_eqb 0x0008 m.0 (λ (e : 0x0008 ≡ m.0). omega (arith, e, below)))

@@ -85,7 +85,7 @@ by_vga p =
 
 says_displays : Says c (Shared (Addr 0xA0000) (by_vga 0) (by_vga 1))
 unfolding zeros u16 u32 header_in display_of displays u16_at u32_at bridge_at fpb_at port_at record_at vector_claims memory_claims prefetchable_claims low_claims high_claims vga_enabled video_claims memory_space_enabled address_decoders at_least_one holds any_below clash clashes_with faulty
-says_displays = (record { in-range = omega arith; passes = refl; first = first; port = first_is refl }, second_is refl refl, refl, refl)
+says_displays = (record { in_range = omega arith; passes = refl; first = first; port = first_is refl }, second_is refl refl, refl, refl)
   where
     first : (u : Target) → Earlier u (Addr 0xA0000) → faulty Faulty-as-Shared c u ≡ false
     first (Id m) below = unshared_id m.0

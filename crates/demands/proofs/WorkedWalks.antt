@@ -44,9 +44,9 @@ worked_walks =
     record {
       down = given worked four_ports (reads 4) 0 255 0x0300 (0 ∷ 1 ∷ 2 ∷ []) (Device (port_no 2) 0) refl (goes refl (goes refl (goes refl (ends refl))));
       across = given worked four_ports (reads 4) 0 3 0x0300 (3 ∷ 2 ∷ []) (Device (port_no 2) 0) refl (goes refl (goes refl (ends refl)));
-      own-id = given worked four_ports (reads 4) 0 255 0x0200 (0 ∷ 1 ∷ []) (Function (port_no 2)) refl (goes refl (goes refl (ends refl)));
-      own-device = given worked four_ports (reads 4) 1 2 0xE0000000 [] (Unsupported (port_no 2)) refl (ends refl);
-      other-device = given worked four_ports (reads 4) 1 3 0xE0000000 (3 ∷ 2 ∷ []) (Device (port_no 2) 0) refl (goes refl (goes refl (ends refl)));
+      own_id = given worked four_ports (reads 4) 0 255 0x0200 (0 ∷ 1 ∷ []) (Function (port_no 2)) refl (goes refl (goes refl (ends refl)));
+      own_device = given worked four_ports (reads 4) 1 2 0xE0000000 [] (Unsupported (port_no 2)) refl (ends refl);
+      other_device = given worked four_ports (reads 4) 1 3 0xE0000000 (3 ∷ 2 ∷ []) (Device (port_no 2) 0) refl (goes refl (goes refl (ends refl)));
       up = given worked four_ports (reads 4) 1 2 0 (2 ∷ 1 ∷ 0 ∷ []) Host refl (goes refl (goes refl (goes refl (ends refl))));
       configures = given worked four_ports (reads 4) 2 255 0x0300 (0 ∷ 1 ∷ 2 ∷ []) (Device (port_no 2) 0) refl (goes refl (goes refl (goes refl (ends refl))));
       refuses = given worked four_ports (reads 4) 2 255 0x0308 (0 ∷ 1 ∷ []) (Unsupported (port_no 2)) refl (goes refl (goes refl (ends refl)));

@@ -1,5 +1,7 @@
 // explain [PATCH]: reads a picture from standard input and prints what the judge says of it, as `report` does, or, with the vectors
 // of the file PATCH put in, as `trial` does; and behind that a sentence in plain words.
+#![tactic(auto)]
+
 use libc::{PATH_MAX, STDERR_FILENO, STDIN_FILENO};
 
 fn print_lines(picture: &[u8]) {

@@ -16,6 +16,7 @@ fn bit_of(claims: bool, weight: u32) -> u32
 }
 
 // The decoders by their bits.
+#[tactic(auto, unfolding(crate::specs::Codes::decoder_bits))]
 fn decoder_bits(d: Decoders) -> u32
     ensures { result ≡ decoder_bits d }
 {

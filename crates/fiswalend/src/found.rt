@@ -45,6 +45,7 @@ fn showing(h: Head, t: Target) -> [u8; ANSWER_BYTES]
 }
 
 // All that is said of a finding.
+#[tactic(auto, unfolding(crate::specs::Found::finding_bytes))]
 pub fn finding_bytes(f: Finding) -> [u8; ANSWER_BYTES]
     ensures { result ≡ finding_bytes f }
 {

@@ -1,5 +1,7 @@
 // The calls for the chassis controller, which is written in C: include/fiswalend.h has them for C, and says what the caller
 // must see to.
+#![tactic(auto)]
+
 mod add_call;
 mod buffers;
 mod check_call;

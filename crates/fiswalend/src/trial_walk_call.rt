@@ -7,6 +7,7 @@ use answers::ANSWER_BYTES;
 
 // Where a packet would go with the patch's vectors put in: the number, and the answer in the buffer.
 #[unsafe(no_mangle)]
+#[tactic(auto, using(crate::proofs::WalkCalls::leaves_17, crate::proofs::WalkCalls::leaves_40, crate::proofs::WalkCalls::trial_crossings_few))]
 pub extern "C" fn fpb_trial_walk<'a>(
     picture: &'a [u8],
     patch: &'a [u8],

@@ -7,6 +7,7 @@ use answers::ANSWER_BYTES;
 
 // Where a packet goes: the number, and the answer in the buffer.
 #[unsafe(no_mangle)]
+#[tactic(auto, using(crate::proofs::WalkCalls::crossings_few, crate::proofs::WalkCalls::leaves_17, crate::proofs::WalkCalls::leaves_40))]
 pub extern "C" fn fpb_walk(
     picture: &[u8],
     answer: &mut [u8],

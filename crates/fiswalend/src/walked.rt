@@ -36,6 +36,7 @@ fn end_head(e: End, crossings: u8) -> Head
 }
 
 // A refusal, or the end and the ports crossed.
+#[tactic(auto, unfolding(crate::specs::Walked::walk_bytes))]
 pub fn walk_bytes(a: WalkAnswer) -> [u8; ANSWER_BYTES]
     requires { a.path.count < 256 }
     ensures { result ≡ walk_bytes a }

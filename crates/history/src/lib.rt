@@ -1,5 +1,7 @@
 // A history of changes in the form that the customer lends it: a room of change records, and a run of them to add. Thin functions
 // read and set one record; what a change means is said by the crate `changes`.
+#![tactic(auto)]
+
 mod adding;
 mod looking;
 mod records;

@@ -1,4 +1,6 @@
 // The ports of a place that have to do with a target: the two lowest.
+#![tactic(auto)]
+
 ghost use Rattle.std.specs.Prelude.{◌≡◌};
 ghost use Rattle.chassis.specs.Chassis.{with_port, passes_at, lowest_at};
 ghost use Rattle.trees.specs.Trees.{count_of};
@@ -9,7 +11,7 @@ use chassis::Holders;
 use ids::{PortNo, Target};
 
 // Which ports of a place a rule looks at: those that hold the target, whose own it is, or that claim it.
-#[derive(Drop)]
+#[derive(Clone, Copy)]
 pub enum Regard {
     Held,
     Own,
@@ -28,6 +30,7 @@ fn regarded<'a>(s: &'a [u8], patch: &'a [u8], t: Target, regard: Regard, p: Port
 }
 
 // Whether a port stands at the place and is looked at: a port elsewhere costs one read.
+#[tactic(auto, unfolding(chassis::specs::Chassis::passes_at))]
 fn passes<'a>(
     s: &'a [u8],
     patch: &'a [u8],
@@ -46,6 +49,7 @@ fn passes<'a>(
 }
 
 // The two lowest so far, after port p was tried.
+#[tactic(auto, unfolding(chassis::specs::Chassis::with_port))]
 fn with_port(found: Holders, p: PortNo, passes: bool) -> Holders
     ensures { result ≡ with_port found p.0 passes }
 {
@@ -60,6 +64,7 @@ fn with_port(found: Holders, p: PortNo, passes: bool) -> Holders
 }
 
 // The two lowest ports of a place, of n in all, that are looked at.
+#[tactic(auto, using(crate::proofs::Laws::all_tried), unfolding(chassis::specs::Chassis::lowest_two))]
 pub fn lowest_at<'a>(
     s: &'a [u8],
     patch: &'a [u8],

@@ -1,4 +1,6 @@
 // What a port holds or claims in one space beside the video range, and which IDs it takes, as ranges and grids for a search.
+#![tactic(auto)]
+
 mod reaches;
 mod taken;
 

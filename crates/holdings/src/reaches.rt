@@ -12,6 +12,7 @@ use spans::grids::Grid;
 use spans::ranges::Range;
 
 // A range, or the empty one.
+#[tactic(auto, unfolding(crate::specs::Holdings::range_if))]
 pub fn range_if(on: bool, lo: u64, hi: u64) -> Range
     ensures value { result ≡ range_if on lo hi }
     ensures hi_le_hi { result.hi ≤ hi }
@@ -24,6 +25,7 @@ pub fn range_if(on: bool, lo: u64, hi: u64) -> Range
 }
 
 // A vector's grid, within the range if the mechanism is enabled.
+#[tactic(auto, unfolding(crate::specs::Holdings::grid_if))]
 pub fn grid_if(on: bool, f: Fpb, m: Mechanism, lo: u64, hi: u64) -> Grid
     ensures value { result ≡ grid_if on f m lo hi }
     ensures scale_bound { (result.settings.scale < 64) × (result.within.hi ≤ hi) }
@@ -35,6 +37,7 @@ pub fn grid_if(on: bool, f: Fpb, m: Mechanism, lo: u64, hi: u64) -> Grid
 }
 
 // The IDs of the bus pair.
+#[tactic(auto, unfolding(crate::specs::Holdings::bus_range))]
 pub fn bus_range(on: bool, b: Bridge) -> Range
     ensures value { result ≡ bus_range on b }
     ensures hi_bound { result.hi < 2 ^ 16 }
@@ -47,6 +50,7 @@ pub fn bus_range(on: bool, b: Bridge) -> Range
 }
 
 // Memory Base..Limit.
+#[tactic(auto, unfolding(crate::specs::Holdings::memory_range))]
 fn memory_range(on: bool, b: Bridge) -> Range
     ensures { result ≡ memory_range on b }
 {
@@ -58,6 +62,7 @@ fn memory_range(on: bool, b: Bridge) -> Range
 }
 
 // Prefetchable Base..Limit.
+#[tactic(auto, unfolding(crate::specs::Holdings::prefetchable_range))]
 fn prefetchable_range(on: bool, b: Bridge) -> Range
     ensures { result ≡ prefetchable_range on b }
 {
@@ -69,6 +74,7 @@ fn prefetchable_range(on: bool, b: Bridge) -> Range
 }
 
 // IDs: the bus pair, the port's own and its RID vector.
+#[tactic(auto, unfolding(crate::specs::Holdings::id_reach))]
 fn id_reach(p: Port, own: bool, claims: bool) -> Reach
     ensures value { result ≡ id_reach p own claims }
     ensures fits { fits result × EndsIn Ids result }
@@ -85,6 +91,7 @@ fn id_reach(p: Port, own: bool, claims: bool) -> Reach
 }
 
 // Addresses: the memory decoders but vga.
+#[tactic(auto, unfolding(crate::specs::Holdings::address_reach))]
 pub fn address_reach(p: Port, on: bool) -> Reach
     ensures value { result ≡ address_reach p on }
     ensures fits { fits result × EndsIn Addresses result }

@@ -15,6 +15,7 @@ use spans::grids::Grid;
 use spans::ranges::{Range, later};
 
 // The IDs of the Secondary range: units of an upstream port, a bus with ARI, else one unit.
+#[tactic(auto, using(crate::proofs::TakenWords::last_id), unfolding(crate::specs::Taken::secondary_range))]
 fn secondary_range(p: Port) -> Range
     ensures { result ≡ secondary_range p }
 {
@@ -48,6 +49,7 @@ fn secondary_if(p: Port) -> Range
 }
 
 // The IDs of the bus Secondary, where the bus pair claims.
+#[tactic(auto, unfolding(crate::specs::Taken::secondary_bus))]
 fn secondary_bus(b: Bridge) -> Range
     ensures value { result ≡ secondary_bus b }
     ensures hi_bound { result.hi < 2 ^ 16 }
@@ -60,6 +62,7 @@ fn secondary_bus(b: Bridge) -> Range
 }
 
 // What two ranges have in common.
+#[tactic(auto, unfolding(crate::specs::Taken::common))]
 fn common(a: Range, b: Range) -> Range
     ensures value { result ≡ common a b }
     ensures hi_le_hi { result.hi ≤ b.hi }
@@ -72,6 +75,7 @@ fn common(a: Range, b: Range) -> Range
 }
 
 // What a port takes: of its Secondary range what it claims by its bus pair or its RID vector, and its bus Secondary.
+#[tactic(auto, unfolding(crate::specs::Taken::taken_reach))]
 fn taken(p: Port) -> Reach
     ensures value { result ≡ taken_reach p }
     ensures fits { fits result × EndsIn Ids result }

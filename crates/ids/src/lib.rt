@@ -1,28 +1,30 @@
 // Port numbers, IDs and units: three types, so that none stands for another; and what a packet is sent to.
+#![tactic(auto)]
+
 ghost use Rattle.std.specs.Prelude.{◌≡◌};
 ghost use Rattle.ids.specs.Ids.{bus_of, device_of, function_of, unit_of};
 
 // The number of a port in its picture.
-#[derive(Drop)]
+#[derive(Clone, Copy)]
 pub struct PortNo(pub u8);
 
 // A Routing ID: bus, device and Function.
-#[derive(Drop)]
+#[derive(Clone, Copy)]
 pub struct Rid(pub u16);
 
 // Eight IDs that differ in their Function alone: an ID divided by 8.
-#[derive(Drop)]
+#[derive(Clone, Copy)]
 pub struct Unit(pub u16);
 
 // What a packet is sent to.
-#[derive(Drop)]
+#[derive(Clone, Copy)]
 pub enum Target {
     Id(Rid),
     Addr(u64),
 }
 
 // The two spaces of targets.
-#[derive(Drop)]
+#[derive(Clone, Copy)]
 pub enum Space {
     Ids,
     Addresses,

@@ -8,6 +8,7 @@ use chassis::{Finding, finding_of};
 use picture::Reading;
 
 // Numbers 1 to 10, then 11 to 15 and 18 with the least target and its ports, else clear.
+#[tactic(auto, using(picture::proofs::WhatReads::count_few, picture::proofs::WhatReads::count_read, claims::proofs::Over::unpatched), unfolding(crate::specs::Checking::check_of))]
 pub fn check(s: &[u8]) -> CheckAnswer
     ensures { result ≡ check_answer s.now }
 {
@@ -19,6 +20,7 @@ pub fn check(s: &[u8]) -> CheckAnswer
 }
 
 // What is said of the check's answer: the number, the target that it shows and the ports that it names.
+#[tactic(auto, unfolding(crate::specs::Checking::check_finding))]
 pub fn check_finding(a: CheckAnswer) -> Finding
     ensures { result ≡ check_finding a }
 {

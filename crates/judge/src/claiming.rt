@@ -9,6 +9,7 @@ use ids::PortNo;
 use picture::Reading;
 
 // Number 16.
+#[tactic(auto, unfolding(crate::specs::Claiming::claim_asked_wrongly))]
 fn claim_asked_wrongly(count: u32, port: u32, kind: u32, target: u64) -> bool
     ensures { result ≡ claim_asked_wrongly count port kind target }
 {
@@ -16,6 +17,7 @@ fn claim_asked_wrongly(count: u32, port: u32, kind: u32, target: u64) -> bool
 }
 
 // Numbers 1 to 10, then 16, else the decoders of the port that claim the target, and whether it is the port's own.
+#[tactic(auto, using(crate::proofs::Asked::claim_port, crate::proofs::Asked::claim_target, picture::proofs::WhatReads::count_few, claims::proofs::Over::unpatched), unfolding(crate::specs::Claiming::claim_of))]
 pub fn claim(s: &[u8], port: u32, kind: u32, target: u64) -> ClaimAnswer
     ensures { result ≡ claim_answer s.now port kind target }
 {

@@ -9,6 +9,7 @@ use ids::{PortNo, Rid, Target};
 use picture::Reading;
 
 // Number 16; kind 0 is an ID.
+#[tactic(auto, unfolding(crate::specs::Converting::convert_asked_wrongly))]
 fn convert_asked_wrongly(count: u32, port: u32, target: u64) -> bool
     ensures { result ≡ convert_asked_wrongly count port target }
 {
@@ -16,6 +17,7 @@ fn convert_asked_wrongly(count: u32, port: u32, target: u64) -> bool
 }
 
 // Numbers 1 to 10, then 16, else what the port makes of the request.
+#[tactic(auto, using(crate::proofs::Asked::convert_fits, picture::proofs::WhatReads::count_few, claims::proofs::Over::unpatched), unfolding(crate::specs::Converting::convert_of))]
 pub fn convert(s: &[u8], port: u32, target: u64) -> ConvertAnswer
     ensures { result ≡ convert_answer s.now port target }
 {

@@ -1,4 +1,6 @@
 // The library's calls: any bytes, any numbers, and one answer for each, with a file for every call and one for the trials.
+#![tactic(auto)]
+
 mod asking;
 mod checking;
 mod claiming;
@@ -19,42 +21,42 @@ pub use trying::{trial_check, trial_part, trial_walk};
 pub use walking::walk;
 
 // The decoders of a port that claim a target, and beside them whether it is the port's own, or why that is not answered.
-#[derive(Drop)]
+#[derive(Clone, Copy)]
 pub enum ClaimAnswer {
     Refused(Refusal),
     Claimed(Hold),
 }
 
 // What a port makes of a configuration request, or why that is not answered.
-#[derive(Drop)]
+#[derive(Clone, Copy)]
 pub enum ConvertAnswer {
     Refused(Refusal),
     Converted(Conversion),
 }
 
 // How a walk came out: why it is not answered, or where the packet ends.
-#[derive(Drop)]
+#[derive(Clone, Copy)]
 pub enum Outcome {
     Refused(Refusal),
     Ended(End),
 }
 
 // Where a packet goes, with the ports that it crosses.
-#[derive(Drop)]
+#[derive(Clone, Copy)]
 pub struct WalkAnswer {
     pub outcome: Outcome,
     pub path: Path,
 }
 
 // Where a vector of a port lies, or why that is not answered.
-#[derive(Drop)]
+#[derive(Clone, Copy)]
 pub enum PartAnswer {
     Refused(Refusal),
     Lies(Place),
 }
 
 // What the check finds, or why the picture or the patch does not read.
-#[derive(Drop)]
+#[derive(Clone, Copy)]
 pub enum CheckAnswer {
     Refused(Refusal),
     Judged(Verdict),

@@ -9,6 +9,7 @@ use ids::PortNo;
 use picture::{Reading, Refusal};
 
 // The refusal of a picture or a patch that does not read.
+#[tactic(auto, using(least::proofs::Laws::impossible))]
 pub fn refusal_of(got: Reading) -> Refusal
     ensures { (told : Refusal) → got ≡ Refused told → result ≡ told }
 {
@@ -29,6 +30,7 @@ pub fn number_16() -> Refusal
 }
 
 // The port that a refusal names: one of numbers 6 to 10 names it.
+#[tactic(auto, unfolding(crate::specs::Refusals::refusal_finding))]
 fn named_by(r: Refusal) -> Named
     ensures { result ≡ (refusal_finding r).ports }
 {
@@ -40,6 +42,7 @@ fn named_by(r: Refusal) -> Named
 }
 
 // What is said of a refusal.
+#[tactic(auto, unfolding(crate::specs::Refusals::refusal_finding))]
 pub fn refusal_finding(r: Refusal) -> Finding
     ensures { result ≡ refusal_finding r }
 {

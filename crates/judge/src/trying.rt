@@ -11,6 +11,7 @@ use picture::Reading;
 use registers::Mechanism;
 
 // Numbers 1 to 10, then 30 to 32, then the check of the picture with the patch's vectors put in.
+#[tactic(auto, using(crate::proofs::Trials::count_tried, crate::proofs::Trials::few_tried, crate::proofs::Trials::trial_judged), unfolding(crate::specs::Trying::tried_check))]
 pub fn trial_check<'a>(s: &'a [u8], patch: &'a [u8]) -> CheckAnswer
     ensures { result ≡ trial_check s.now patch.now }
 {
@@ -22,6 +23,7 @@ pub fn trial_check<'a>(s: &'a [u8], patch: &'a [u8]) -> CheckAnswer
 }
 
 // Numbers 1 to 10, then 30 to 32, then the walk in the picture with the patch's vectors put in.
+#[tactic(auto, using(crate::proofs::Trials::count_tried, crate::proofs::Trials::few_tried, crate::proofs::Trials::sane_tried, crate::proofs::Trials::trial_unread, crate::proofs::Trials::trial_walked))]
 pub fn trial_walk<'a>(
     s: &'a [u8],
     patch: &'a [u8],
@@ -39,6 +41,7 @@ pub fn trial_walk<'a>(
 }
 
 // Numbers 1 to 10, then 30 to 32, then 16 for a port beyond the count, else where that port's vector lies.
+#[tactic(auto, using(crate::proofs::Trials::few_tried), unfolding(crate::specs::Trying::tried_part))]
 pub fn trial_part<'a>(s: &'a [u8], patch: &'a [u8], port: u32, m: Mechanism) -> PartAnswer
     ensures { result ≡ trial_part s.now patch.now port m }
 {

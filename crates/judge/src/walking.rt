@@ -19,6 +19,7 @@ use routes::Walked;
 const ROOT_START: u32 = 255;
 
 // The packet of a kind, 0 to 2, for a target that is no ID over FFFFh.
+#[tactic(auto, using(crate::proofs::Asked::id_small), unfolding(crate::specs::Walking::packet_of))]
 fn packet_of(kind: u32, target: u64) -> Packet
     requires { id_too_large kind target ≡ false }
     ensures { result ≡ packet_of kind target }
@@ -30,6 +31,7 @@ fn packet_of(kind: u32, target: u64) -> Packet
 }
 
 // Whether a packet may start there: at the root, or below a device port.
+#[tactic(auto, unfolding(chassis::specs::Tree::is_device_port, crate::specs::Walking::is_start))]
 fn is_start(s: &[u8], n: u8, start: u32) -> bool
     requires { n ≡ count_of s.now }
     ensures { result ≡ is_start (tree_of s.now) start }
@@ -45,6 +47,7 @@ fn is_start(s: &[u8], n: u8, start: u32) -> bool
 }
 
 // Number 16.
+#[tactic(auto, unfolding(crate::specs::Walking::asked_wrongly))]
 fn asked_wrongly(s: &[u8], n: u8, kind: u32, start: u32, target: u64) -> bool
     requires { n ≡ count_of s.now }
     ensures { result ≡ asked_wrongly (tree_of s.now) kind start target }
@@ -53,6 +56,7 @@ fn asked_wrongly(s: &[u8], n: u8, kind: u32, start: u32, target: u64) -> bool
 }
 
 // The answer of a call that is refused: nothing is crossed.
+#[tactic(auto, unfolding(crate::specs::Walking::refused_walk))]
 pub fn refused(r: Refusal) -> WalkAnswer
     ensures { result ≡ refused_walk r }
 {
@@ -63,6 +67,7 @@ pub fn refused(r: Refusal) -> WalkAnswer
 }
 
 // The answer of a walk that came to its end.
+#[tactic(auto, unfolding(crate::specs::Walking::ended_walk))]
 fn ended(w: Walked) -> WalkAnswer
     ensures { result ≡ ended_walk w }
 {
@@ -75,6 +80,7 @@ fn ended(w: Walked) -> WalkAnswer
 }
 
 // Number 16, else where the packet ends, with every port crossed, over a picture of n ports that reads and a patch.
+#[tactic(auto, using(crate::proofs::Walks::gives_16, crate::proofs::Walks::gives_end, crate::proofs::Walks::id_fits, crate::proofs::Walks::small_start, crate::proofs::Walks::within_start))]
 pub fn walk_over<'a>(
     s: &'a [u8],
     patch: &'a [u8],
@@ -96,6 +102,7 @@ pub fn walk_over<'a>(
 }
 
 // Numbers 1 to 10, then 16, else where the packet ends, with every port crossed.
+#[tactic(auto, using(picture::proofs::WhatReads::count_few, picture::proofs::WhatReads::count_read, crate::proofs::Walks::gives_alone, crate::proofs::Walks::gives_unread, picture::proofs::WhatReads::sane_read))]
 pub fn walk(s: &[u8], kind: u32, start: u32, target: u64) -> WalkAnswer
     ensures { WalkGives s.now kind start target result }
 {

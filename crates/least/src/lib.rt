@@ -1,8 +1,10 @@
 // The answer of every search for the lowest number: a port, an entry or a target.
+#![tactic(auto)]
+
 ghost use Rattle.std.specs.Prelude.{◌≡◌};
 ghost use Rattle.least.specs.Least.{soonest, is_by};
 
-#[derive(Drop)]
+#[derive(Clone, Copy)]
 pub enum Found {
     At(u64),
     Nothing,
@@ -22,6 +24,7 @@ pub fn sooner(a: Found, b: Found) -> Found
 }
 
 // Whether a finding is no later than a number.
+#[tactic(auto, unfolding(crate::specs::Least::is_by))]
 pub fn is_by(found: Found, n: u64) -> bool
     ensures { result ≡ is_by found n }
 {

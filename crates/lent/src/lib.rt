@@ -1,6 +1,8 @@
 // Reading lent bytes, whatever they are: numbers in little-endian order, and parts. What lies past the end reads as 0
 // and belongs to no part, so no reader asks anything of its caller but an offset that can be added to; only the whole
 // reads at the end ask that all bytes are there.
+#![tactic(auto)]
+
 ghost use Rattle.std.specs.Prelude.{◌≡◌, ◌+◌, ◌*◌, ◌≤◌, ◌<◌, ◌^◌, length, get_or, take, drop};
 ghost use Rattle.lent.specs.Lent.{u16_at, u32_at};
 
@@ -12,6 +14,7 @@ pub fn u8_at(s: &[u8], i: usize) -> u8
 }
 
 // The two bytes from i on.
+#[tactic(auto, unfolding(crate::specs::Lent::u16_at))]
 pub fn u16_at(s: &[u8], i: usize) -> u16
     requires { i < 2 ^ 40 }
     ensures { result ≡ u16_at s.now i }
@@ -23,6 +26,7 @@ pub fn u16_at(s: &[u8], i: usize) -> u16
 }
 
 // The four bytes from i on.
+#[tactic(auto, unfolding(crate::specs::Lent::u32_at))]
 pub fn u32_at(s: &[u8], i: usize) -> u32
     requires { i < 2 ^ 36 }
     ensures { result ≡ u32_at s.now i }
@@ -47,6 +51,7 @@ pub fn part(s: &[u8], a: usize, n: usize) -> &[u8]
 }
 
 // The two, four and eight bytes from i on, all of them there: one read in the machine.
+#[tactic(auto, unfolding(crate::specs::Lent::u16_at))]
 fn whole16(s: &[u8], i: usize) -> u16
     requires { i + 2 ≤ length s.now }
     ensures { result ≡ u16_at s.now i }
@@ -54,6 +59,7 @@ fn whole16(s: &[u8], i: usize) -> u16
     s[i] as u16 + 256 * (s[i + 1] as u16)
 }
 
+#[tactic(auto, unfolding(crate::specs::Lent::u32_at))]
 fn whole32(s: &[u8], i: usize) -> u32
     requires { i + 4 ≤ length s.now }
     ensures { result ≡ u32_at s.now i }

@@ -37,6 +37,7 @@ fn with_port<'a>(
 }
 
 // The least target of a space at which one of n ports is at fault beside the video range.
+#[tactic(auto, using(crate::proofs::Folds::faults_begin, crate::proofs::Folds::faults_end))]
 fn least_beside<'a>(s: &'a [u8], patch: &'a [u8], n: u8, fault: Fault, space: Space) -> Found
     requires { n ≡ count_of s.now }
     ensures { result ≡ least_target (faulty fault (chassis_beside s.now patch.now)) space }
@@ -51,6 +52,7 @@ fn least_beside<'a>(s: &'a [u8], patch: &'a [u8], n: u8, fault: Fault, space: Sp
 }
 
 // The least target of a space at which one of n ports is at fault.
+#[tactic(auto, using(crate::proofs::WithVideo::least_address, crate::proofs::WithVideo::least_id, claims::proofs::OfVideo::of_video))]
 pub fn least_fault<'a>(s: &'a [u8], patch: &'a [u8], n: u8, fault: Fault, space: Space) -> Found
     requires { n ≡ count_of s.now }
     ensures { result ≡ least_target (faulty fault (chassis_over s.now patch.now)) space }

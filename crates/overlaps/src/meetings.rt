@@ -12,7 +12,7 @@ use patches::vector;
 use registers::Mechanism;
 
 // What of a port is looked at: the IDs that it takes, where `taken`; else its own ID, its claims, or both.
-#[derive(Drop)]
+#[derive(Clone, Copy)]
 pub struct Holding {
     pub port: PortNo,
     pub own: bool,
@@ -21,6 +21,7 @@ pub struct Holding {
 }
 
 // The least target of a space that a has, and that b has or does not, as is wanted; or the best so far, if that is lower.
+#[tactic(auto, using(crate::proofs::OfMeetings::meets_first))]
 pub fn least_meeting<'a>(
     s: &'a [u8],
     patch: &'a [u8],

@@ -14,6 +14,7 @@ use least::Found;
 use registers::parent_at;
 
 // The best so far, after ports p and q were tried; a port with itself is its own ID against its claims.
+#[tactic(auto, using(crate::proofs::Folds::no_pair, crate::proofs::Folds::pair_first))]
 fn with_pair<'a>(
     s: &'a [u8],
     patch: &'a [u8],
@@ -45,6 +46,7 @@ fn with_pair<'a>(
 }
 
 // The best so far, after port p was tried with itself and with each later one; the earlier ones were tried with it.
+#[tactic(auto, using(crate::proofs::Folds::row_begins, crate::proofs::Folds::row_ends, crate::proofs::Folds::row_more, crate::proofs::Folds::seen))]
 pub fn with_pairs<'a>(
     s: &'a [u8],
     patch: &'a [u8],

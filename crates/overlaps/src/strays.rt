@@ -12,6 +12,7 @@ use least::Found;
 use registers::{kind_at, parent_at};
 
 // The best so far, after port p was tried; nothing of a root port strays.
+#[tactic(auto, using(crate::proofs::Folds::with_stray, crate::proofs::Folds::without_stray))]
 pub fn with_child<'a>(s: &'a [u8], patch: &'a [u8], space: Space, p: PortNo, best: Found) -> Found
     requires { best ≡ least_target (faulty_to Stray (chassis_beside s.now patch.now) p.0) space }
     ensures { result ≡ least_target (faulty_to Stray (chassis_beside s.now patch.now) (p.0 + 1)) space }

@@ -12,6 +12,7 @@ use ids::{PortNo, Target};
 use least::Found;
 
 // Whether port p claims the video range and is at fault there; no vector is looked at if it does not claim it.
+#[tactic(auto, unfolding(crate::specs::Overlaps::video_at_fault))]
 fn video_at_fault<'a>(s: &'a [u8], patch: &'a [u8], n: u8, fault: Fault, p: PortNo) -> bool
     requires { n ≡ count_of s.now }
     ensures { result ≡ video_at_fault fault (chassis_over s.now patch.now) p.0 }
@@ -23,6 +24,7 @@ fn video_at_fault<'a>(s: &'a [u8], patch: &'a [u8], n: u8, fault: Fault, p: Port
 }
 
 // The first address of the video range, where one of n ports claims it and is at fault there.
+#[tactic(auto, using(least::proofs::Laws::NoneIn, least::proofs::Laws::none_empty, least::proofs::Laws::none_more, crate::proofs::WithVideo::video_at, crate::proofs::WithVideo::video_none))]
 pub fn least_of_video<'a>(s: &'a [u8], patch: &'a [u8], n: u8, fault: Fault) -> Found
     requires { n ≡ count_of s.now }
     ensures { result ≡ least_of_video fault (chassis_over s.now patch.now) }

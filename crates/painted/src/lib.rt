@@ -1,5 +1,7 @@
 // What a port claims beside the video range, marked in a strip: all IDs by units of 8, the addresses below 4 GiB by MiB, or a window of
 // the MEM High vector by granules.
+#![tactic(auto)]
+
 mod units;
 
 ghost use Rattle.std.specs.Prelude.{◌≡◌, length};
@@ -14,6 +16,7 @@ pub use units::{Part, Window, is_whole};
 use units::{base_unit, mechanism_of, units_of};
 
 // Marks the units of a part that port p claims.
+#[tactic(auto, using(crate::proofs::Laws::port_off, crate::proofs::Laws::port_on))]
 pub fn paint<'a>(s: &'a [u8], patch: &'a [u8], p: PortNo, part: Part, strip: &mut [u64])
     requires strip_len { length strip.old ≡ 128 }
     requires fits_part { FitsPart part }

@@ -10,14 +10,14 @@ use spans::ranges::Range;
 use vectors::Settings;
 
 // A part of the addresses from 4 GiB up: units of 2^scale addresses, from unit `base` on.
-#[derive(Drop)]
+#[derive(Clone, Copy)]
 pub struct Window {
     pub scale: u32,
     pub base: u64,
 }
 
 // A part of a space that a strip covers: all IDs, the addresses below 4 GiB, or a window above.
-#[derive(Drop)]
+#[derive(Clone, Copy)]
 pub enum Part {
     Ids,
     Low,
@@ -25,7 +25,7 @@ pub enum Part {
 }
 
 // Two ranges of units, and a vector's entries, which count where `on`.
-#[derive(Drop)]
+#[derive(Clone, Copy)]
 pub struct Claimed {
     pub first: Range,
     pub second: Range,
@@ -53,6 +53,7 @@ fn left_of(a: u32, b: u32) -> u32
 }
 
 // Whether each entry of a vector is whole units of 2^k targets.
+#[tactic(auto, unfolding(crate::specs::Painted::whole_in))]
 pub fn is_whole(g: Settings, k: u32) -> bool
     requires { k < 64 }
     ensures { result ≡ whole_in g k }
@@ -61,6 +62,7 @@ pub fn is_whole(g: Settings, k: u32) -> bool
 }
 
 // IDs: the buses of the bus pair, 32 units each, and the RID vector.
+#[tactic(auto, using(crate::proofs::Laws::rid_small), unfolding(crate::specs::Painted::id_units))]
 fn id_units(p: Port) -> Claimed
     ensures value { result ≡ id_units p }
     ensures small { small result.settings }
@@ -80,6 +82,7 @@ fn id_units(p: Port) -> Claimed
 }
 
 // Memory Base..Limit.
+#[tactic(auto, unfolding(crate::specs::Painted::memory_units))]
 fn memory_units(on: bool, b: Bridge) -> Range
     ensures { result ≡ memory_units on b }
 {
@@ -91,6 +94,7 @@ fn memory_units(on: bool, b: Bridge) -> Range
 }
 
 // Prefetchable Base..Limit.
+#[tactic(auto, unfolding(crate::specs::Painted::prefetchable_units))]
 fn prefetchable_units(on: bool, b: Bridge) -> Range
     ensures { result ≡ prefetchable_units on b }
 {
@@ -102,6 +106,7 @@ fn prefetchable_units(on: bool, b: Bridge) -> Range
 }
 
 // Addresses: the two windows and the Low vector.
+#[tactic(auto, using(crate::proofs::Laws::low_small), unfolding(crate::specs::Painted::address_units))]
 fn address_units(p: Port) -> Claimed
     ensures value { result ≡ address_units p }
     ensures small { small result.settings }
@@ -118,6 +123,7 @@ fn address_units(p: Port) -> Claimed
 }
 
 // A window: the High vector, where its entries are whole units.
+#[tactic(auto, using(crate::proofs::Laws::high_small), unfolding(crate::specs::Painted::high_units))]
 fn high_units(p: Port, w: Window) -> Claimed
     requires { FitsWindow w }
     ensures value { result ≡ high_units p w }

@@ -115,14 +115,14 @@ module _ (s patch : List ℕ) (h : Header) (a : Accepted s patch h) where
   reads' =
       record {
         header = read.header ∙ sym header_same;
-        length-right = rw (length_same, edition_same) read.length_right;
-        edition-right = rw header_same read.edition_right;
-        count-right = rw header_same read.count_right;
+        length_right = rw (length_same, edition_same) read.length_right;
+        edition_right = rw header_same read.edition_right;
+        count_right = rw header_same read.count_right;
         total_right = rw (length_same, header_same) read.total_right;
-        offset-right = rw (length_same, header_same) read.offset_right;
-        rules-kept = λ rule. record { none = λ p z l. rule_kept rule p l };
+        offset_right = rw (length_same, header_same) read.offset_right;
+        rules_kept = λ rule. record { none = λ p z l. rule_kept rule p l };
         in_place = record { none = λ p z l. place_kept p l };
-        end-right = rw (length_same, count_same, running_same (count_of s) (le_refl _)) read.end_right;
+        end_right = rw (length_same, count_same, running_same (count_of s) (le_refl _)) read.end_right;
       }
 
   -- it reads, with the same header

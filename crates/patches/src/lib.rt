@@ -1,5 +1,7 @@
 // A patch over a picture: new vectors for some of its ports. Any lent bytes are read or refused, and each vector is handed out
 // as a part of the picture or of the patch.
+#![tactic(auto)]
+
 mod parts;
 mod reading;
 mod rows;

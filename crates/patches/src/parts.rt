@@ -13,14 +13,14 @@ use picture::offset_in;
 use registers::{Mechanism, sizes_of, vector_bytes, vectors_start};
 
 // The two lent slices.
-#[derive(Drop)]
+#[derive(Clone, Copy)]
 pub enum Source {
     Picture,
     Patch,
 }
 
 // Where a vector lies: in which slice, from which byte on, and how many bytes.
-#[derive(Drop)]
+#[derive(Clone, Copy)]
 pub struct Place {
     pub source: Source,
     pub at: u64,
@@ -28,6 +28,7 @@ pub struct Place {
 }
 
 // Where port p's vector lies; where picture and patch read, that is where the port's row says.
+#[tactic(auto, using(picture::proofs::Laws::offset_same, crate::proofs::PatchedReads::place_both), unfolding(crate::specs::Halves::place_over))]
 pub fn lies_at(s: &[u8], patch: &[u8], p: PortNo, m: Mechanism) -> Place
     ensures value { result ≡ place_over s.now patch.now p.0 m }
     ensures value_2 { (h : Header) → reading_with s.now patch.now ≡ Read h → result ≡ place_of s.now patch.now p.0 m }
@@ -48,6 +49,7 @@ pub fn lies_at(s: &[u8], patch: &[u8], p: PortNo, m: Mechanism) -> Place
 }
 
 // Port p's vector, as a part of the slice that it lies in, sought in an empty patch too.
+#[tactic(auto, unfolding(crate::specs::Parts::part_at, crate::specs::Halves::vector_over))]
 fn sought<'a>(s: &'a [u8], patch: &'a [u8], p: PortNo, m: Mechanism) -> &'a [u8]
     ensures { result.now ≡ vector_over s.now patch.now p.0 m }
 {
@@ -61,6 +63,7 @@ fn sought<'a>(s: &'a [u8], patch: &'a [u8], p: PortNo, m: Mechanism) -> &'a [u8]
 
 // Port p's vector, as a part of the slice that it lies in: where picture and patch read, the bytes that lie where the port's row
 // says. Without a patch nothing is sought.
+#[tactic(auto, using(crate::proofs::Sought::own_vector, crate::proofs::PatchedReads::vector_told))]
 pub fn vector<'a>(s: &'a [u8], patch: &'a [u8], p: PortNo, m: Mechanism) -> &'a [u8]
     ensures result_value { result.now ≡ vector_over s.now patch.now p.0 m }
     ensures result_value_2 { (h : Header) → reading_with s.now patch.now ≡ Read h → result.now ≡ part_at (place_of s.now patch.now p.0 m) s.now patch.now }

@@ -12,6 +12,7 @@ use picture::{Header, Reading, Refusal, all_bytes};
 use registers::port_at;
 
 // Number 30.
+#[tactic(auto, unfolding(crate::specs::Patch::header_misfits))]
 fn header_misfits(patch: &[u8]) -> bool
     ensures { result ≡ header_misfits patch.now }
 {
@@ -20,6 +21,7 @@ fn header_misfits(patch: &[u8]) -> bool
 }
 
 // Number 31 at row i: its port does not rise above that of the row before, or the picture, of n ports, does not have it.
+#[tactic(auto, using(crate::proofs::Laws::rising_at), unfolding(crate::specs::Patch::not_rising, crate::specs::Patch::port_misplaced))]
 pub fn port_misplaced(patch: &[u8], n: u8, i: u32) -> bool
     ensures { result ≡ port_misplaced n patch.now i }
 {
@@ -31,6 +33,7 @@ pub fn port_misplaced(patch: &[u8], n: u8, i: u32) -> bool
 }
 
 // Number 31.
+#[tactic(auto, using(crate::proofs::Laws::port_wrong), unfolding(chassis::specs::Tree::any_below, crate::specs::Patch::ports_misplaced))]
 fn ports_misplaced(patch: &[u8], n: u8) -> bool
     ensures { result ≡ ports_misplaced n patch.now }
 {
@@ -46,6 +49,7 @@ fn ports_misplaced(patch: &[u8], n: u8) -> bool
 }
 
 // Number 32, of a patch that 31 does not refuse: the rows' offsets run on without gaps, and the last vectors end at the total.
+#[tactic(auto, using(crate::proofs::Laws::offset_kept, crate::proofs::Laws::offset_wrong_lem, crate::proofs::Accepted::port_there), unfolding(chassis::specs::Tree::any_below, crate::specs::Patch::running_in, crate::specs::Patch::vectors_misplaced))]
 fn vectors_misplaced(s: &[u8], patch: &[u8], n: u8) -> bool
     requires { ports_misplaced n patch.now ≡ false }
     ensures { result ≡ vectors_misplaced s.now patch.now }
@@ -75,6 +79,7 @@ fn refuse(number: u8) -> Reading
 }
 
 // Numbers 30 to 32 of a patch over a picture that reads, or the picture's header.
+#[tactic(auto, unfolding(crate::specs::Reading::patch_reading))]
 fn read_patch(s: &[u8], patch: &[u8], h: Header) -> Reading
     requires { h.count ≤ 64 }
     ensures { result ≡ patch_reading (Read h) s.now patch.now }
@@ -93,6 +98,7 @@ fn read_patch(s: &[u8], patch: &[u8], h: Header) -> Reading
 }
 
 // Reads a picture and a patch: numbers 1 to 10, then 30 to 32, or the picture's header.
+#[tactic(auto, using(picture::proofs::WhatReads::count_few), unfolding(crate::specs::Reading::patch_reading))]
 pub fn read(s: &[u8], patch: &[u8]) -> Reading
     ensures { result ≡ reading_with s.now patch.now }
 {

@@ -16,7 +16,7 @@ const ROW_BYTES: u64 = 8;
 const HALVINGS: u8 = 7;
 
 // Rows that may be the one sought: from lo on, below hi.
-#[derive(Drop)]
+#[derive(Clone, Copy)]
 pub struct Rows {
     pub lo: u32,
     pub hi: u32,
@@ -30,6 +30,7 @@ pub fn ports_in(patch: &[u8]) -> u32
 }
 
 // Where row i starts; where the vectors start, if i is the count.
+#[tactic(auto, unfolding(crate::specs::Patch::row_at))]
 pub fn row_at(i: u32) -> u64
     ensures value { result ≡ row_at i }
     ensures upper_bound { result < 2 ^ 36 - 4 }
@@ -38,6 +39,7 @@ pub fn row_at(i: u32) -> u64
 }
 
 // The port of row i.
+#[tactic(auto, unfolding(crate::specs::Patch::port_in))]
 pub fn port_in(patch: &[u8], i: u32) -> u32
     ensures { result ≡ port_in patch.now i }
 {
@@ -45,6 +47,7 @@ pub fn port_in(patch: &[u8], i: u32) -> u32
 }
 
 // Where the vectors of row i start.
+#[tactic(auto, unfolding(crate::specs::Patch::offset_at))]
 pub fn offset_at(patch: &[u8], i: u32) -> u32
     ensures { result ≡ offset_at patch.now i }
 {
@@ -52,6 +55,7 @@ pub fn offset_at(patch: &[u8], i: u32) -> u32
 }
 
 // The half of the rows that port p's row can be in: their ports rise.
+#[tactic(auto, unfolding(crate::specs::Halves::halved))]
 fn halve(patch: &[u8], p: PortNo, rows: Rows) -> Rows
     ensures { result ≡ halved patch.now p.0 rows }
 {
@@ -72,6 +76,7 @@ fn halve(patch: &[u8], p: PortNo, rows: Rows) -> Rows
 }
 
 // The rows that are left after as many halvings as 64 rows need.
+#[tactic(auto, unfolding(crate::specs::Halves::halved_to))]
 fn halve_all(patch: &[u8], p: PortNo) -> Rows
     ensures { result ≡ halved_to patch.now p.0 7 }
 {
@@ -88,6 +93,7 @@ fn halve_all(patch: &[u8], p: PortNo) -> Rows
 }
 
 // The row of port p, if it stands in the patch; of a patch that is refused, perhaps none where there is one.
+#[tactic(auto, unfolding(crate::specs::Parts::is_row_of, crate::specs::Halves::row_sought))]
 pub fn row_of(patch: &[u8], p: PortNo) -> Found
     ensures value { result ≡ row_sought patch.now p.0 }
     ensures result_value { is_row result ≡ true }

@@ -1,11 +1,13 @@
 // The ports that a packet has crossed, in crossing order.
+#![tactic(auto)]
+
 ghost use Rattle.std.specs.Prelude.{◌≡◌, ◌<◌, []};
 ghost use Rattle.paths.specs.Paths.{path_of, extended};
 
 use ids::PortNo;
 
 // 32 places; those that are not used yet are 255.
-#[derive(Drop)]
+#[derive(Clone, Copy)]
 pub struct Path {
     pub places: [PortNo; 32],
     pub count: usize,
@@ -13,6 +15,7 @@ pub struct Path {
 
 impl Path {
     // Nothing crossed yet.
+    #[tactic(auto, unfolding(crate::specs::Paths::path_of))]
     pub fn new() -> Path
         ensures { result ≡ path_of [] }
     {
@@ -23,6 +26,7 @@ impl Path {
     }
 
     // The path with one crossing more.
+    #[tactic(auto, unfolding(crate::specs::Paths::extended))]
     pub fn crossed(mut self, p: PortNo) -> Path
         requires { self.count < 32 }
         ensures { result ≡ extended self p }

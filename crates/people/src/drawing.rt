@@ -67,6 +67,7 @@ fn draw(s: &[u8], n: u8)
 }
 
 // The tree of a picture that reads, sound or not; for any other the line that the report has.
+#[tactic(auto, using(picture::proofs::WhatReads::count_few, picture::proofs::WhatReads::count_read))]
 pub fn print_tree(s: &[u8]) {
     let got = picture::read(s);
     let Reading::Read(h) = got else {

@@ -1,4 +1,6 @@
 // What a person reads of a picture: ports in words, the sentence of a number, and the tree.
+#![tactic(auto)]
+
 mod causes;
 mod drawing;
 mod fixed;

@@ -7,6 +7,7 @@ use lent::{u16_at, u32_at};
 use registers::{HEADER_BYTES, edition_of, record_at};
 
 // The first 16 bytes.
+#[tactic(auto, unfolding(crate::specs::Header::header_of))]
 pub fn header_at(s: &[u8]) -> Header
     ensures { result ≡ header_of s.now }
 {
@@ -20,6 +21,7 @@ pub fn header_at(s: &[u8]) -> Header
 }
 
 // Number 1.
+#[tactic(auto, unfolding(crate::specs::Header::length_wrong))]
 pub fn length_wrong(s: &[u8]) -> bool
     ensures { result ≡ length_wrong s.now }
 {
@@ -27,6 +29,7 @@ pub fn length_wrong(s: &[u8]) -> bool
 }
 
 // Number 2.
+#[tactic(auto, unfolding(crate::specs::Header::edition_wrong))]
 pub fn edition_wrong(h: Header) -> bool
     ensures { result ≡ edition_wrong h }
 {
@@ -34,6 +37,7 @@ pub fn edition_wrong(h: Header) -> bool
 }
 
 // Number 3.
+#[tactic(auto, unfolding(crate::specs::Header::count_wrong))]
 pub fn count_wrong(h: Header) -> bool
     ensures { result ≡ count_wrong h }
 {
@@ -41,6 +45,7 @@ pub fn count_wrong(h: Header) -> bool
 }
 
 // Number 4.
+#[tactic(auto, unfolding(crate::specs::Header::total_wrong))]
 pub fn total_wrong(lent: usize, h: Header) -> bool
     ensures { result ≡ total_wrong lent h }
 {
@@ -48,6 +53,7 @@ pub fn total_wrong(lent: usize, h: Header) -> bool
 }
 
 // Number 5.
+#[tactic(auto, unfolding(crate::specs::Header::offset_wrong))]
 pub fn offset_wrong(lent: usize, h: Header) -> bool
     ensures { result ≡ offset_wrong lent h }
 {

@@ -19,6 +19,7 @@ pub fn all_bytes(f: Fpb) -> u64
 }
 
 // The lowest port whose vectors start elsewhere than at the running offset, or 255 if they do not end at the total.
+#[tactic(auto, using(least::proofs::Laws::NoneIn, crate::proofs::Laws::all_bytes_same, crate::proofs::Laws::misplaced_end, crate::proofs::Laws::misplaced_here, crate::proofs::Laws::misplaced_nowhere, least::proofs::Laws::none_empty, least::proofs::Laws::none_more, crate::proofs::Laws::place_kept, crate::proofs::Laws::place_wrong_lem), unfolding(crate::specs::Layout::running_offset))]
 pub fn misplaced(s: &[u8], n: u8) -> Found
     requires { n ≡ count_of s.now }
     ensures { result ≡ misplaced_in s.now }
@@ -51,6 +52,7 @@ pub fn offset_in(f: Fpb, m: Mechanism) -> u64
 }
 
 // A port's vector, as a part of the picture.
+#[tactic(auto, using(crate::proofs::Laws::offset_same), unfolding(crate::specs::Layout::vector_of))]
 pub fn vector(s: &[u8], p: PortNo, m: Mechanism) -> &[u8]
     ensures { result.now ≡ vector_of s.now p.0 m }
 {

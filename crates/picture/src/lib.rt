@@ -1,4 +1,6 @@
 // Reading a picture: any lent bytes are read, or refused with the number of the table and the port that it names.
+#![tactic(auto)]
+
 mod headers;
 mod layout;
 
@@ -13,7 +15,7 @@ pub use layout::{all_bytes, offset_in, vector};
 use least::Found;
 use registers::port_at;
 
-#[derive(Drop)]
+#[derive(Clone, Copy)]
 pub struct Header {
     pub edition: u16,
     pub count: u16,
@@ -23,20 +25,20 @@ pub struct Header {
 }
 
 // A number of the table, and the port that it names, or 255.
-#[derive(Drop)]
+#[derive(Clone, Copy)]
 pub struct Refusal {
     pub number: u8,
     pub port: PortNo,
 }
 
-#[derive(Drop)]
+#[derive(Clone, Copy)]
 pub enum Reading {
     Read(Header),
     Refused(Refusal),
 }
 
 // The rules that each port keeps by itself: numbers 6 to 9.
-#[derive(Drop)]
+#[derive(Clone, Copy)]
 pub enum Rule {
     Tree,
     Chain,
@@ -45,6 +47,7 @@ pub enum Rule {
 }
 
 // Whether a port breaks a rule.
+#[tactic(auto, unfolding(crate::specs::Reading::breaks))]
 fn breaks_rule(s: &[u8], p: PortNo, rule: Rule) -> bool
     ensures { result ≡ breaks rule s.now p.0 }
 {
@@ -57,6 +60,7 @@ fn breaks_rule(s: &[u8], p: PortNo, rule: Rule) -> bool
 }
 
 // The lowest of n ports that breaks a rule.
+#[tactic(auto, using(least::proofs::Laws::NoneIn, least::proofs::Laws::at_is, least::proofs::Laws::none_empty, least::proofs::Laws::none_is, least::proofs::Laws::none_more, least::proofs::Laws::none_part))]
 fn lowest_culprit(s: &[u8], n: u8, rule: Rule) -> Found
     ensures { result ≡ first_in (breaks rule s.now) 0 n }
 {
@@ -92,6 +96,7 @@ fn after(got: Reading, found: Found, number: u8) -> Reading
 }
 
 // The same, of a rule that is looked for only where no lower number has refused the picture.
+#[tactic(auto, using(crate::proofs::Laws::port_found))]
 fn after_rule(s: &[u8], n: u8, got: Reading, rule: Rule, number: u8) -> Reading
     ensures { result ≡ then_at got (first_in (breaks rule s.now) 0 n) number }
 {
@@ -102,6 +107,7 @@ fn after_rule(s: &[u8], n: u8, got: Reading, rule: Rule, number: u8) -> Reading
 }
 
 // Numbers 6 to 10, looked for over all ports one number after the other.
+#[tactic(auto, using(crate::proofs::Laws::count_of_lem, crate::proofs::Laws::place_found, crate::proofs::Laws::ports_chained, crate::proofs::Laws::refused_stays))]
 fn read_ports(s: &[u8], h: Header) -> Reading
     requires h_value { h ≡ header_of s.now }
     requires count_bound { h.count ≤ 64 }
@@ -119,6 +125,7 @@ fn read_ports(s: &[u8], h: Header) -> Reading
 }
 
 // Reads a picture: numbers 1 to 10, or its header.
+#[tactic(auto, using(crate::proofs::Laws::count_small), unfolding(crate::specs::Reading::reading))]
 pub fn read(s: &[u8]) -> Reading
     ensures { result ≡ reading s.now }
 {

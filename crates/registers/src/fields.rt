@@ -81,6 +81,7 @@ fn unit_scale(m: Mechanism) -> u32
 }
 
 // How many entries a vector has.
+#[tactic(auto, using(crate::proofs::Laws::size_small, crate::proofs::Laws::size_whole))]
 fn size(f: Fpb, m: Mechanism) -> u64
     ensures value { result ≡ size_of f m }
     ensures upper_bound { result ≤ 32768 }
@@ -89,6 +90,7 @@ fn size(f: Fpb, m: Mechanism) -> u64
 }
 
 // A vector by its size, start and granularity.
+#[tactic(auto, unfolding(crate::specs::Vectors::settings_of))]
 pub fn settings(f: Fpb, m: Mechanism) -> Settings
     ensures value { result ≡ settings_of f m }
     ensures scale_bound { result.scale < 64 }
@@ -101,6 +103,7 @@ pub fn settings(f: Fpb, m: Mechanism) -> Settings
 }
 
 // How many bytes of the picture a vector takes.
+#[tactic(auto, unfolding(crate::specs::Vectors::vector_bytes))]
 pub fn vector_bytes(f: Fpb, m: Mechanism) -> u64
     ensures value { result ≡ vector_bytes f m }
     ensures upper_bound { result ≤ 4096 }

@@ -1,4 +1,6 @@
 // A port's record: its registers by value, as the picture carries them.
+#![tactic(auto)]
+
 mod fields;
 mod records;
 mod rules;
@@ -17,7 +19,7 @@ pub use records::{
 pub use rules::{settings_wrong, start_wrong, with_ari, with_redirect};
 
 // What a record is about: a Type 1 header's registers.
-#[derive(Drop)]
+#[derive(Clone, Copy)]
 pub struct Bridge {
     pub command: u16,
     pub secondary: u8,
@@ -32,7 +34,7 @@ pub struct Bridge {
 }
 
 // The registers of the Flattening Portal Bridge capability.
-#[derive(Drop)]
+#[derive(Clone, Copy)]
 pub struct Fpb {
     pub capabilities: u32,
     pub rid_control_1: u32,
@@ -43,14 +45,14 @@ pub struct Fpb {
 }
 
 // The three FPB decode mechanisms, each with a vector of its own.
-#[derive(Drop)]
+#[derive(Clone, Copy)]
 pub enum Mechanism {
     Rid,
     Low,
     High,
 }
 
-#[derive(Drop)]
+#[derive(Clone, Copy)]
 pub struct Port {
     pub kind: u8,
     pub parent: PortNo,
@@ -64,6 +66,7 @@ pub struct Port {
 }
 
 // The Type 1 header registers of the record that starts at r.
+#[tactic(auto, unfolding(crate::specs::Record::bridge_at))]
 fn bridge_at(s: &[u8], r: usize) -> Bridge
     requires { r < 2 ^ 22 }
     ensures { result ≡ bridge_at s.now r }
@@ -83,6 +86,7 @@ fn bridge_at(s: &[u8], r: usize) -> Bridge
 }
 
 // The FPB registers of the record that starts at r.
+#[tactic(auto, unfolding(crate::specs::Record::fpb_at))]
 fn fpb_at(s: &[u8], r: usize) -> Fpb
     requires { r < 2 ^ 22 }
     ensures { result ≡ fpb_at s.now r }
@@ -109,6 +113,7 @@ fn in_edition_2(s: &[u8], edition: u16, at: usize) -> u16
 }
 
 // The record of port p.
+#[tactic(auto, unfolding(crate::specs::Record::port_at))]
 pub fn port_at(s: &[u8], p: PortNo) -> Port
     ensures { result ≡ port_at s.now p.0 }
 {

@@ -26,6 +26,7 @@ fn record_bytes(edition: u16) -> usize
 }
 
 // Where the record of port p starts; where all records end, if p is the count of ports.
+#[tactic(auto, using(crate::proofs::Laws::record_small), unfolding(crate::specs::Record::record_at))]
 pub fn record_at(edition: u16, p: usize) -> usize
     requires { p < 2 ^ 16 }
     ensures value { result ≡ record_at edition p }
@@ -43,6 +44,7 @@ fn record_in(s: &[u8], p: PortNo) -> usize
 }
 
 // 0 root port, 1 switch upstream, 2 switch downstream.
+#[tactic(auto, unfolding(crate::specs::Record::port_at))]
 pub fn kind_at(s: &[u8], p: PortNo) -> u8
     ensures { result ≡ (port_at s.now p.0).kind }
 {
@@ -50,6 +52,7 @@ pub fn kind_at(s: &[u8], p: PortNo) -> u8
 }
 
 // The port above, 255 for a root port.
+#[tactic(auto, unfolding(crate::specs::Record::port_at))]
 pub fn parent_at(s: &[u8], p: PortNo) -> PortNo
     ensures { result.0 ≡ (port_at s.now p.0).parent.0 }
 {
@@ -57,6 +60,7 @@ pub fn parent_at(s: &[u8], p: PortNo) -> PortNo
 }
 
 // The FPB registers of port p as far as its vectors' sizes hang on them: Capabilities. The others are left 0.
+#[tactic(auto, using(crate::proofs::Laws::sizes_same), unfolding(crate::specs::Record::fpb_at, crate::specs::Record::port_at))]
 pub fn sizes_of(s: &[u8], p: PortNo) -> Fpb
     ensures { (m : Mechanism) → vector_bytes result m ≡ vector_bytes (port_at s.now p.0).fpb m }
 {
@@ -71,6 +75,7 @@ pub fn sizes_of(s: &[u8], p: PortNo) -> Fpb
 }
 
 // The Type 1 header registers of port p as far as they enable anything: Command and Bridge Control. The others are left 0.
+#[tactic(auto, unfolding(crate::specs::Record::bridge_at, crate::specs::Record::port_at))]
 pub fn enables_of(s: &[u8], p: PortNo) -> Bridge
     ensures command_value { result.command ≡ (port_at s.now p.0).bridge.command }
     ensures bridge_control_value { result.bridge_control ≡ (port_at s.now p.0).bridge.bridge_control }
@@ -91,6 +96,7 @@ pub fn enables_of(s: &[u8], p: PortNo) -> Bridge
 }
 
 // Where the vectors of port p start.
+#[tactic(auto, unfolding(crate::specs::Record::port_at))]
 pub fn vectors_start(s: &[u8], p: PortNo) -> u32
     ensures { result ≡ (port_at s.now p.0).vectors_at }
 {
@@ -98,6 +104,7 @@ pub fn vectors_start(s: &[u8], p: PortNo) -> u32
 }
 
 // The ID of port p itself.
+#[tactic(auto, unfolding(crate::specs::Record::port_at))]
 pub fn own_id_at(s: &[u8], p: PortNo) -> Rid
     ensures { result.0 ≡ (port_at s.now p.0).own_id.0 }
 {

@@ -7,6 +7,7 @@ use crate::{Bridge, Fpb, Mechanism, Port};
 use chassis::UPSTREAM;
 
 // A size code that the table of settings does not have.
+#[tactic(auto, unfolding(crate::specs::Rules::size_reserved))]
 fn size_reserved(f: Fpb, m: Mechanism) -> bool
     ensures { result ≡ size_reserved f m }
 {
@@ -19,6 +20,7 @@ fn size_reserved(f: Fpb, m: Mechanism) -> bool
 }
 
 // A granularity that the size allows.
+#[tactic(auto, unfolding(crate::specs::Rules::granularity_allowed))]
 fn granularity_allowed(f: Fpb, m: Mechanism) -> bool
     ensures { result ≡ granularity_allowed f m }
 {
@@ -34,6 +36,7 @@ fn granularity_allowed(f: Fpb, m: Mechanism) -> bool
 }
 
 // The part of number 8 that each mechanism has.
+#[tactic(auto, unfolding(crate::specs::Rules::mechanism_wrong))]
 fn mechanism_wrong(f: Fpb, m: Mechanism) -> bool
     ensures { result ≡ mechanism_wrong f m }
 {
@@ -43,6 +46,7 @@ fn mechanism_wrong(f: Fpb, m: Mechanism) -> bool
 }
 
 // The part of number 8 about bits 3:0 of the Memory and Prefetchable registers.
+#[tactic(auto, unfolding(crate::specs::Rules::memory_bits_wrong))]
 fn memory_bits_wrong(b: Bridge) -> bool
     ensures { result ≡ memory_bits_wrong b }
 {
@@ -53,6 +57,7 @@ fn memory_bits_wrong(b: Bridge) -> bool
 }
 
 // Number 8.
+#[tactic(auto, unfolding(crate::specs::Rules::settings_wrong))]
 pub fn settings_wrong(p: Port) -> bool
     ensures { result ≡ settings_wrong p }
 {
@@ -66,6 +71,7 @@ pub fn settings_wrong(p: Port) -> bool
 }
 
 // ARI Forwarding Enable, which means nothing on an upstream port.
+#[tactic(auto, unfolding(crate::specs::Rules::with_ari))]
 pub fn with_ari(p: Port) -> bool
     ensures { result ≡ with_ari p }
 {
@@ -73,6 +79,7 @@ pub fn with_ari(p: Port) -> bool
 }
 
 // P2P Request Redirect, bit 2 of ACS Control.
+#[tactic(auto, unfolding(crate::specs::Rules::with_redirect))]
 pub fn with_redirect(p: Port) -> bool
     ensures { result ≡ with_redirect p }
 {
@@ -80,6 +87,7 @@ pub fn with_redirect(p: Port) -> bool
 }
 
 // How many targets an entry stands for.
+#[tactic(auto, using(crate::proofs::Laws::granule_whole))]
 fn granule(scale: u32) -> u64
     requires { scale < 64 }
     ensures value { result ≡ 2 ^ scale }
@@ -89,6 +97,7 @@ fn granule(scale: u32) -> u64
 }
 
 // An enabled start that is no multiple of the granularity.
+#[tactic(auto, unfolding(crate::specs::Rules::start_broken))]
 fn start_broken(f: Fpb, m: Mechanism) -> bool
     ensures { result ≡ start_broken f m }
 {
@@ -97,6 +106,7 @@ fn start_broken(f: Fpb, m: Mechanism) -> bool
 }
 
 // Number 9.
+#[tactic(auto, unfolding(crate::specs::Rules::start_wrong))]
 pub fn start_wrong(p: Port) -> bool
     ensures { result ≡ start_wrong p }
 {

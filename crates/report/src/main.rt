@@ -1,5 +1,7 @@
 // Reads a picture from standard input and prints what the judge says of it: two lines for a picture that passes, one for a
 // refusal.
+#![tactic(auto)]
+
 use libc::STDIN_FILENO;
 
 fn print_lines(picture: &[u8]) {

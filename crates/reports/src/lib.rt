@@ -1,4 +1,6 @@
 // What the programs print of the library's answers.
+#![tactic(auto)]
+
 mod holders;
 
 ghost use Rattle.std.specs.Prelude.{◌≡◌, eqb};
@@ -40,6 +42,7 @@ fn walked(config: bool, answer: WalkAnswer) -> Text
 }
 
 // All that the program `report` prints.
+#[tactic(auto, using(texts::proofs::Laws::begun))]
 pub fn report_lines(picture: &[u8]) -> Text
     ensures { result ≡ text_of (ended (report_of picture.now 10)) }
 {
@@ -47,6 +50,7 @@ pub fn report_lines(picture: &[u8]) -> Text
 }
 
 // All that the program `trial` prints.
+#[tactic(auto, using(texts::proofs::Laws::begun))]
 pub fn trial_lines<'a>(picture: &'a [u8], patch: &'a [u8]) -> Text
     ensures { result ≡ text_of (ended (trial_of picture.now patch.now 10)) }
 {
@@ -54,6 +58,7 @@ pub fn trial_lines<'a>(picture: &'a [u8], patch: &'a [u8]) -> Text
 }
 
 // All that the program `route` prints for a packet of this kind; 2 is a configuration request.
+#[tactic(auto, using(texts::proofs::Laws::begun))]
 pub fn walk_lines(kind: u32, answer: WalkAnswer) -> Text
     ensures { result ≡ text_of (ended (walk_of (eqb kind 2) answer)) }
 {

@@ -1,5 +1,7 @@
 // route id|addr|config START TARGET: where a packet goes in the picture on standard input. START is `host` or the number of
 // a device port, TARGET a number in hexadecimal.
+#![tactic(auto)]
+
 use arguments::Number;
 use libc::{STDERR_FILENO, STDIN_FILENO};
 

@@ -1,4 +1,6 @@
 // Where a packet goes: the rules of the walk on the bytes of a picture that reads, repeated until they come to an end.
+#![tactic(auto)]
+
 mod starts;
 mod steps;
 
@@ -14,13 +16,14 @@ use paths::Path;
 pub use starts::starts_at;
 
 // The ports crossed and the end.
-#[derive(Drop)]
+#[derive(Clone, Copy)]
 pub struct Walked {
     pub path: Path,
     pub end: End,
 }
 
 // A packet's way from its start to its end.
+#[tactic(auto, using(crate::proofs::Laws::Underway, crate::proofs::Laws::arrives, crate::proofs::Laws::goes_on, crate::proofs::Laws::nearer, crate::proofs::Laws::room, crate::proofs::Laws::sets_out))]
 pub fn walk_from<'a>(
     s: &'a [u8],
     patch: &'a [u8],

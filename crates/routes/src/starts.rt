@@ -8,6 +8,7 @@ use chassis::{Packet, Whereabouts};
 use ids::{PortNo, Target};
 
 // Whether a packet is redirected that starts below this port: one for an address, where the port has redirect and does not claim it.
+#[tactic(auto, unfolding(chassis::specs::Walk::is_redirected))]
 fn is_redirected<'a>(s: &'a [u8], patch: &'a [u8], packet: Packet, start: PortNo) -> bool
     ensures { result ≡ is_redirected (chassis_over s.now patch.now) packet start.0 }
 {

@@ -21,6 +21,7 @@ fn target_of(packet: Packet) -> Target
 }
 
 // The Function number of a configuration request that ends at a port's device, whatever the patch.
+#[tactic(auto, unfolding(chassis::specs::Walk::function_number))]
 fn function_number(s: &[u8], q: PortNo, t: Target) -> u8
     ensures { (patch : List ℕ) → result ≡ function_number (chassis_over s.now patch) q.0 t }
 {
@@ -35,6 +36,7 @@ fn function_number(s: &[u8], q: PortNo, t: Target) -> u8
 }
 
 // A port about to be crossed by a configuration request decides.
+#[tactic(auto, unfolding(chassis::specs::Walk::decided))]
 fn decide(p: PortNo, conversion: Conversion) -> Step
     ensures { result ≡ decided p conversion }
 {
@@ -47,6 +49,7 @@ fn decide(p: PortNo, conversion: Conversion) -> Step
 }
 
 // Crossing a port downward.
+#[tactic(auto, unfolding(chassis::specs::Walk::downward))]
 fn downward<'a>(s: &'a [u8], patch: &'a [u8], packet: Packet, p: PortNo) -> Step
     ensures { result ≡ Walk·downward (chassis_over s.now patch.now) packet p }
 {
@@ -57,6 +60,7 @@ fn downward<'a>(s: &'a [u8], patch: &'a [u8], packet: Packet, p: PortNo) -> Step
 }
 
 // Rule 2.
+#[tactic(auto, unfolding(chassis::specs::Walk::sole_holder))]
 fn sole_holder<'a>(s: &'a [u8], patch: &'a [u8], packet: Packet, p: PortNo) -> Step
     ensures { result ≡ sole_holder (chassis_over s.now patch.now) packet p }
 {
@@ -67,6 +71,7 @@ fn sole_holder<'a>(s: &'a [u8], patch: &'a [u8], packet: Packet, p: PortNo) -> S
 }
 
 // Rule 4, and what Type 0 comes to where no own ID is the target, whatever the patch.
+#[tactic(auto, unfolding(chassis::specs::Walk::device_or))]
 fn device_or(s: &[u8], n: u8, q: PortNo, function: u8) -> Step
     requires { n ≡ count_of s.now }
     ensures { (patch : List ℕ) → result ≡ device_or (chassis_over s.now patch) q function }
@@ -79,6 +84,7 @@ fn device_or(s: &[u8], n: u8, q: PortNo, function: u8) -> Step
 }
 
 // Where a packet is that started at a place, or crossed a port upward to it.
+#[tactic(auto, unfolding(chassis::specs::Walk::come_to))]
 pub fn come_to(redirected: bool, place: PortNo) -> Whereabouts
     ensures { result ≡ come_to redirected place.0 }
 {
@@ -92,6 +98,7 @@ pub fn come_to(redirected: bool, place: PortNo) -> Whereabouts
 }
 
 // Rule 5.
+#[tactic(auto, unfolding(chassis::specs::Walk::upward))]
 fn upward<'a>(s: &'a [u8], patch: &'a [u8], t: Target, q: PortNo) -> Step
     ensures { result ≡ Walk·upward (chassis_over s.now patch.now) t q }
 {
@@ -103,6 +110,7 @@ fn upward<'a>(s: &'a [u8], patch: &'a [u8], t: Target, q: PortNo) -> Step
 }
 
 // At the root: rules 1 to 3.
+#[tactic(auto, unfolding(chassis::specs::Walk::by_holders))]
 fn at_root<'a>(s: &'a [u8], patch: &'a [u8], n: u8, packet: Packet) -> Step
     requires { n ≡ count_of s.now }
     ensures { result ≡ at_place (chassis_over s.now patch.now) packet root (Step.Stop End.Host) }
@@ -115,6 +123,7 @@ fn at_root<'a>(s: &'a [u8], patch: &'a [u8], n: u8, packet: Packet) -> Step
 }
 
 // Below a port, come from above: rules 1, 2 and 4.
+#[tactic(auto, unfolding(chassis::specs::Walk::by_holders))]
 fn from_above<'a>(s: &'a [u8], patch: &'a [u8], n: u8, packet: Packet, q: PortNo) -> Step
     requires { n ≡ count_of s.now }
     ensures { result ≡ at_place (chassis_over s.now patch.now) packet q.0 (device_or (chassis_over s.now patch.now) q 0) }
@@ -127,6 +136,7 @@ fn from_above<'a>(s: &'a [u8], patch: &'a [u8], n: u8, packet: Packet, q: PortNo
 }
 
 // Below a port, started or come from below: rules 1, 2 and 5.
+#[tactic(auto, unfolding(chassis::specs::Walk::by_holders, chassis::specs::Walk::from_below))]
 fn from_below<'a>(s: &'a [u8], patch: &'a [u8], n: u8, packet: Packet, q: PortNo) -> Step
     requires { n ≡ count_of s.now }
     ensures { result ≡ from_below (chassis_over s.now patch.now) packet q }
@@ -142,6 +152,7 @@ fn from_below<'a>(s: &'a [u8], patch: &'a [u8], n: u8, packet: Packet, q: PortNo
 }
 
 // Redirected: the port is crossed upward, whatever it claims, whatever the ports below it hold and whatever the patch.
+#[tactic(auto, unfolding(chassis::specs::Walk::towards_root))]
 fn towards_root(s: &[u8], q: PortNo) -> Step
     ensures { (patch : List ℕ) → result ≡ towards_root (chassis_over s.now patch) q }
 {
@@ -149,6 +160,7 @@ fn towards_root(s: &[u8], q: PortNo) -> Step
 }
 
 // Below a port that made the request Type 0: own IDs alone are looked at.
+#[tactic(auto, unfolding(chassis::specs::Walk::by_holders, chassis::specs::Walk::under_type0))]
 fn under_type0<'a>(s: &'a [u8], patch: &'a [u8], n: u8, t: Target, q: PortNo) -> Step
     requires { n ≡ count_of s.now }
     ensures { result ≡ under_type0 (chassis_over s.now patch.now) t q }
@@ -161,6 +173,7 @@ fn under_type0<'a>(s: &'a [u8], patch: &'a [u8], n: u8, t: Target, q: PortNo) ->
 }
 
 // Below a port that passed the request on as Type 1: claims alone are looked at.
+#[tactic(auto, unfolding(chassis::specs::Walk::by_holders, chassis::specs::Walk::under_type1))]
 fn under_type1<'a>(s: &'a [u8], patch: &'a [u8], n: u8, t: Target, q: PortNo) -> Step
     requires { n ≡ count_of s.now }
     ensures { result ≡ under_type1 (chassis_over s.now patch.now) t q }
@@ -173,6 +186,7 @@ fn under_type1<'a>(s: &'a [u8], patch: &'a [u8], n: u8, t: Target, q: PortNo) ->
 }
 
 // What a packet does next.
+#[tactic(auto, unfolding(chassis::specs::Walk::next))]
 pub fn step<'a>(
     s: &'a [u8],
     patch: &'a [u8],

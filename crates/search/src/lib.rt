@@ -1,4 +1,6 @@
 // The search for the least target that two reaches have to do with.
+#![tactic(auto)]
+
 ghost use Rattle.std.specs.Prelude.{◌≡◌, ◌^◌};
 ghost use Rattle.least.specs.Least.{first_in, soonest};
 ghost use Rattle.spans.specs.Reaches.{fits};
@@ -8,6 +10,7 @@ use least::Found;
 use spans::Reach;
 
 // The next target that is reached, or, where that is wanted, that is not.
+#[tactic(auto, using(crate::proofs::Laws::unwanted, crate::proofs::Laws::wanted))]
 fn next_where(d: Reach, v: &[u8], w: &[u8], want: bool, from: u64) -> Found
     requires { fits d }
     ensures { result ≡ first_in (reaches_is d v.now w.now want) from (2 ^ 64) }
@@ -20,6 +23,7 @@ fn next_where(d: Reach, v: &[u8], w: &[u8], want: bool, from: u64) -> Found
 }
 
 // The least target that a reaches and b reaches, or, where that is wanted, does not; or the best so far, if that is lower.
+#[tactic(auto, using(crate::proofs::Laws::ends_best, crate::proofs::Laws::ends_found, crate::proofs::Laws::ends_left, crate::proofs::Laws::ends_right, crate::proofs::Laws::further, least::proofs::Laws::none_empty, crate::proofs::Laws::to_right))]
 pub fn least_both(
     a: Reach,
     va: &[u8],

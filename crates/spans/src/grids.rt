@@ -11,13 +11,14 @@ use least::Found;
 use vectors::Settings;
 
 // A vector's settings, and the targets for which its entries count.
-#[derive(Drop)]
+#[derive(Clone, Copy)]
 pub struct Grid {
     pub within: Range,
     pub settings: Settings,
 }
 
 // Where an entry begins, or `from` if that is later; an entry past the last target begins nowhere.
+#[tactic(auto, using(crate::proofs::OfGrids::begins_below, crate::proofs::OfGrids::shift_exact), unfolding(crate::specs::Grids::begins_from))]
 fn begin(s: Settings, from: u64, i: u64) -> Found
     requires { s.scale < 64 }
     ensures { result ≡ begins_from s from i }
@@ -30,6 +31,7 @@ fn begin(s: Settings, from: u64, i: u64) -> Found
 }
 
 // The next target whose entry is set.
+#[tactic(auto, using(crate::proofs::OfGrids::hit_at, crate::proofs::OfGrids::hit_none))]
 fn next_hit(v: &[u8], s: Settings, from: u64) -> Found
     requires { s.scale < 64 }
     ensures { result ≡ first_in (hits v.now s) from (2 ^ 64) }
@@ -42,6 +44,7 @@ fn next_hit(v: &[u8], s: Settings, from: u64) -> Found
 }
 
 // The next target whose entry is not set, or that has none.
+#[tactic(auto, using(crate::proofs::OfGrids::miss_at, crate::proofs::OfGrids::miss_below, crate::proofs::OfGrids::miss_end))]
 fn next_miss(v: &[u8], s: Settings, from: u64) -> Found
     requires { s.scale < 64 }
     ensures { result ≡ first_in (unset v.now s) from (2 ^ 64) }
@@ -56,6 +59,7 @@ fn next_miss(v: &[u8], s: Settings, from: u64) -> Found
 }
 
 // A finding, unless it lies above `hi`.
+#[tactic(auto, unfolding(crate::specs::Grids::clipped))]
 fn clip(found: Found, hi: u64) -> Found
     ensures { result ≡ clipped found hi }
 {
@@ -72,6 +76,7 @@ fn clip(found: Found, hi: u64) -> Found
 }
 
 // The next target within the range that is hit, or the best so far, if that is sooner; the vector is read only if it can be.
+#[tactic(auto, using(crate::proofs::OfGrids::hit_in_best, crate::proofs::OfGrids::hit_in_lem, crate::proofs::OfGrids::hit_in_past))]
 pub fn next_hit_in(v: &[u8], g: Grid, from: u64, best: Found) -> Found
     requires { g.settings.scale < 64 }
     ensures { result ≡ soonest best (first_in (hit_in v.now g) from (2 ^ 64)) }
@@ -88,6 +93,7 @@ pub fn next_hit_in(v: &[u8], g: Grid, from: u64, best: Found) -> Found
 }
 
 // The next target out of the range, or missed; the vector is read only within the range.
+#[tactic(auto, using(crate::proofs::OfGrids::miss_in, crate::proofs::OfGrids::miss_in_out))]
 pub fn next_miss_in(v: &[u8], g: Grid, from: u64) -> Found
     requires { g.settings.scale < 64 }
     ensures { result ≡ first_in (missed_in v.now g) from (2 ^ 64) }

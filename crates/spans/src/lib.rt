@@ -1,4 +1,6 @@
 // What one port reaches in one space, IDs or addresses, and the search from next to next. No step goes target by target.
+#![tactic(auto)]
+
 pub mod grids;
 pub mod ranges;
 
@@ -11,7 +13,7 @@ use crate::ranges::Range;
 use least::Found;
 
 // Two ranges and two vectors' grids. What is off is an empty range, or a grid within one.
-#[derive(Drop)]
+#[derive(Clone, Copy)]
 pub struct Reach {
     pub first: Range,
     pub second: Range,
@@ -20,6 +22,7 @@ pub struct Reach {
 }
 
 // The next target, from `from` on, that is reached.
+#[tactic(auto, using(crate::proofs::OfReaches::reach_first))]
 pub fn next_reached(d: Reach, v: &[u8], w: &[u8], from: u64) -> Found
     requires { fits d }
     ensures { result ≡ first_in (reaches d v.now w.now) from (2 ^ 64) }
@@ -34,6 +37,7 @@ pub fn next_reached(d: Reach, v: &[u8], w: &[u8], from: u64) -> Found
 
 // From a target out of the first range, from there out of the second, and past the grids in the same way: the same target
 // exactly if it is not reached.
+#[tactic(auto, unfolding(crate::specs::Reaches::skipped))]
 fn skip(d: Reach, v: &[u8], w: &[u8], i: u64) -> Found
     requires { fits d }
     ensures { result ≡ skipped d v.now w.now i }
@@ -45,6 +49,7 @@ fn skip(d: Reach, v: &[u8], w: &[u8], i: u64) -> Found
 }
 
 // The next target, from `from` on, that is not reached.
+#[tactic(auto, using(least::proofs::Laws::none_empty, crate::proofs::OfReaches::skip_at, crate::proofs::OfReaches::skip_found, crate::proofs::OfReaches::skip_more, crate::proofs::OfReaches::skip_none))]
 pub fn next_unreached(d: Reach, v: &[u8], w: &[u8], from: u64) -> Found
     requires { fits d }
     ensures { result ≡ first_in (misses d v.now w.now) from (2 ^ 64) }

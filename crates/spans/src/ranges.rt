@@ -6,7 +6,7 @@ ghost use Rattle.spans.specs.Ranges.{in_range, out_of, onward};
 use least::Found;
 
 // Both ends belong to it; it is empty where `lo` is above `hi`.
-#[derive(Drop)]
+#[derive(Clone, Copy)]
 pub struct Range {
     pub lo: u64,
     pub hi: u64,
@@ -20,6 +20,7 @@ pub fn later(a: u64, b: u64) -> u64
 }
 
 // The next target in a range.
+#[tactic(auto, using(crate::proofs::OfRanges::in_at, crate::proofs::OfRanges::in_none))]
 pub fn next_in(r: Range, from: u64) -> Found
     ensures { result ≡ first_in (in_range r) from (2 ^ 64) }
 {
@@ -32,6 +33,7 @@ pub fn next_in(r: Range, from: u64) -> Found
 }
 
 // The next target out of a range.
+#[tactic(auto, using(crate::proofs::OfRanges::out_already, crate::proofs::OfRanges::out_at_once, crate::proofs::OfRanges::out_never, crate::proofs::OfRanges::out_next))]
 pub fn next_out(r: Range, from: u64) -> Found
     ensures { result ≡ first_in (out_of r) from (2 ^ 64) }
 {

@@ -8,6 +8,7 @@ use crate::marks::mark_word;
 use least::Found;
 
 // Whether a unit is marked.
+#[tactic(auto, unfolding(crate::specs::Strips::marked))]
 pub fn is_marked(strip: &[u64], u: u64) -> bool
     requires { u / 64 < length strip.now }
     ensures { result ≡ marked strip.now u }
@@ -16,6 +17,7 @@ pub fn is_marked(strip: &[u64], u: u64) -> bool
 }
 
 // A word as it is, or, where that is wanted, its clear digits set.
+#[tactic(auto, using(crate::proofs::Laws::as_wanted, vectors::proofs::Digits::bit, vectors::proofs::Digits::bit_not, crate::proofs::Laws::not_wanted))]
 fn wanted(x: u64, want: bool) -> u64
     ensures { (k : ℕ) → k < 64 → digit result k ≡ beq (digit x k) want }
 {
@@ -23,6 +25,7 @@ fn wanted(x: u64, want: bool) -> u64
 }
 
 // The first unit of the first `words` words that is marked in a, and in b or not, as is wanted.
+#[tactic(auto, using(least::proofs::Laws::NoneIn, least::proofs::Laws::at_is, crate::proofs::OfMarks::both_digits, vectors::proofs::Digits::digits_least, vectors::proofs::Digits::digits_none, least::proofs::Laws::none_empty, least::proofs::Laws::none_is, least::proofs::Laws::none_join, least::proofs::Laws::none_part))]
 pub fn first_of_both(a: &[u64], b: &[u64], want: bool, words: usize) -> Found
     requires { (words ≤ length a.now) × (words ≤ length b.now) × (words ≤ 128) }
     ensures { result ≡ first_in (marked_both a.now b.now want) 0 (64 * words) }
@@ -39,6 +42,7 @@ pub fn first_of_both(a: &[u64], b: &[u64], want: bool, words: usize) -> Found
 }
 
 // Marks in a what is marked in the first `words` words of b.
+#[tactic(auto, using(crate::proofs::Laws::marks_also, crate::proofs::Laws::marks_as, crate::proofs::Laws::marks_none, crate::proofs::OfMarks::words_all, crate::proofs::OfMarks::words_begin, crate::proofs::OfMarks::words_more))]
 pub fn join(a: &mut [u64], b: &[u64], words: usize)
     requires { (words ≤ length a.old) × (words ≤ length b.now) }
     ensures { Marks a.old a.new (words_of words b.now) }

@@ -19,6 +19,7 @@ fn first_entry(base: u64, g: Settings) -> u64
 }
 
 // The entry after the one that the strip ends in, or after the last.
+#[tactic(auto, using(crate::proofs::OfGrids::end_small))]
 fn end_entry(base: u64, g: Settings) -> u64
     requires { small g × (base < 2 ^ 62) }
     ensures { result ≡ min g.size (entry_at g (base + 8191) + 1) }
@@ -27,6 +28,7 @@ fn end_entry(base: u64, g: Settings) -> u64
 }
 
 // The units that entry i stands for.
+#[tactic(auto, using(crate::proofs::OfGrids::begins_small, crate::proofs::OfGrids::one_small, crate::proofs::OfGrids::units_are))]
 fn units_of(g: Settings, i: u64) -> Range
     requires { small g × (i < g.size) }
     ensures { result ≡ entry_units g i }
@@ -39,6 +41,7 @@ fn units_of(g: Settings, i: u64) -> Range
 }
 
 // Each entry that is set, one after the other.
+#[tactic(auto, using(crate::proofs::OfGrids::grid_begin, crate::proofs::OfGrids::grid_end, crate::proofs::OfGrids::grid_more, least::proofs::Laws::is_at, least::proofs::Laws::is_none, crate::proofs::Laws::marks_also, crate::proofs::Laws::marks_as, crate::proofs::Laws::marks_none, crate::proofs::OfGrids::sized))]
 fn mark_entries(strip: &mut [u64], base: u64, v: &[u8], g: Settings)
     requires strip_len { length strip.old ≡ 128 }
     requires small { small g × (base < 2 ^ 62) }
@@ -56,6 +59,7 @@ fn mark_entries(strip: &mut [u64], base: u64, v: &[u8], g: Settings)
 }
 
 // Entries that are a unit each, 64 at a time.
+#[tactic(auto, using(crate::proofs::OfGrids::all_words, crate::proofs::OfGrids::grid_word, crate::proofs::Laws::marks_also, crate::proofs::Laws::marks_as, crate::proofs::Laws::marks_none, crate::proofs::OfGrids::no_words, crate::proofs::OfGrids::sized))]
 fn mark_words(strip: &mut [u64], base: u64, v: &[u8], g: Settings)
     requires strip_len { length strip.old ≡ 128 }
     requires small { small g × (g.scale ≡ 0) × (g.size % 64 ≡ 0) }

@@ -1,5 +1,7 @@
 // A strip: 8,192 units in a row from a base on, whatever a unit is, as the binary digits of 128 words, the first unit lowest. Units
 // are marked in it, and two strips are compared a word at a time.
+#![tactic(auto)]
+
 mod amounts;
 mod finds;
 mod grids;

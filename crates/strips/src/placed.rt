@@ -6,6 +6,7 @@ use crate::WORDS;
 use crate::marks::mark_word;
 
 // The 64 units begin d units before the strip.
+#[tactic(auto, using(crate::proofs::OfMarks::before_first, crate::proofs::OfMarks::before_past, crate::proofs::Laws::marks_as, crate::proofs::Laws::marks_none))]
 fn mark_before(strip: &mut [u64], d: u64, x: u64)
     requires { length strip.old ≡ 128 }
     ensures { Marks strip.old strip.new (digits_from d 0 x) }
@@ -16,6 +17,7 @@ fn mark_before(strip: &mut [u64], d: u64, x: u64)
 }
 
 // What is left of them behind word k, in which the first `room` of them lie.
+#[tactic(auto, using(crate::proofs::Laws::marks_none, crate::proofs::OfMarks::no_rest, crate::proofs::OfMarks::no_word))]
 fn mark_rest(strip: &mut [u64], k: usize, room: u64, x: u64)
     requires strip_len { length strip.old ≡ 128 }
     requires k_bound { (k < 128) × (room < 65) × (0 < room) }
@@ -29,6 +31,7 @@ fn mark_rest(strip: &mut [u64], k: usize, room: u64, x: u64)
 }
 
 // They begin d units behind its first.
+#[tactic(auto, using(crate::proofs::OfMarks::behind_first, crate::proofs::OfMarks::behind_past, crate::proofs::Laws::marks_also, crate::proofs::Laws::marks_none))]
 fn mark_behind(strip: &mut [u64], d: u64, x: u64)
     requires { length strip.old ≡ 128 }
     ensures { Marks strip.old strip.new (digits_from 0 d x) }
@@ -41,6 +44,7 @@ fn mark_behind(strip: &mut [u64], d: u64, x: u64)
 }
 
 // Marks the 64 units from `at` on that are digits of x, as far as they lie in the strip from `base` on.
+#[tactic(auto, using(crate::proofs::OfMarks::from_before, crate::proofs::OfMarks::from_behind, crate::proofs::Laws::marks_as))]
 pub fn mark_from(strip: &mut [u64], base: u64, at: u64, x: u64)
     requires { length strip.old ≡ 128 }
     ensures { Marks strip.old strip.new (digits_from base at x) }

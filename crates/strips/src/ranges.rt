@@ -8,6 +8,7 @@ use crate::marks::{mark_word, word_between};
 use spans::ranges::Range;
 
 // Marks the units a to b of the strip.
+#[tactic(auto, using(crate::proofs::Laws::marks_also, crate::proofs::Laws::marks_as, crate::proofs::Laws::marks_none, crate::proofs::OfMarks::units_begin, crate::proofs::OfMarks::units_end, crate::proofs::OfMarks::units_more, crate::proofs::OfMarks::units_to))]
 fn mark_units(strip: &mut [u64], a: u64, b: u64)
     requires strip_len { length strip.old ≡ 128 }
     requires a_le_b { (a ≤ b) × (b < 8192) }
@@ -21,6 +22,7 @@ fn mark_units(strip: &mut [u64], a: u64, b: u64)
 }
 
 // Marks the units of a range, as far as they lie in the strip from `base` on.
+#[tactic(auto, using(crate::proofs::Laws::marks_as, crate::proofs::Laws::marks_none, crate::proofs::OfMarks::range_before, crate::proofs::OfMarks::range_empty_from, crate::proofs::OfMarks::range_part, crate::proofs::OfMarks::range_past))]
 pub fn mark_range(strip: &mut [u64], base: u64, r: Range)
     requires { length strip.old ≡ 128 }
     ensures { Marks strip.old strip.new (range_from base r) }

@@ -7,6 +7,7 @@ use crate::Text;
 use chassis::{Decoders, Hold};
 
 // The text with a word behind it, where it applies.
+#[tactic(auto, unfolding(crate::specs::Texts::appended))]
 fn with_word(text: Text, applies: bool, word: &[u8]) -> Text
     ensures { result ≡ appended text (cond applies word.now []) }
 {
@@ -17,6 +18,7 @@ fn with_word(text: Text, applies: bool, word: &[u8]) -> Text
 }
 
 // The text with the decoders that claim the target.
+#[tactic(auto, using(crate::proofs::Laws::behind), unfolding(crate::specs::Texts::ascii, crate::specs::Lines::decoder_words))]
 fn with_decoders(text: Text, d: Decoders) -> Text
     ensures { result ≡ appended text (decoder_words d) }
 {
@@ -27,6 +29,7 @@ fn with_decoders(text: Text, d: Decoders) -> Text
 }
 
 // The text with a port's number after a space, and by what the port holds the target.
+#[tactic(auto, using(crate::proofs::Laws::behind), unfolding(crate::specs::Texts::ascii, crate::specs::Lines::hold_words))]
 pub fn with_hold(text: Text, h: Hold) -> Text
     ensures { result ≡ appended text (hold_words h) }
 {
@@ -37,6 +40,7 @@ pub fn with_hold(text: Text, h: Hold) -> Text
 }
 
 // The line of a port that holds a target.
+#[tactic(auto, using(crate::proofs::Laws::begun), unfolding(crate::specs::Texts::ascii, crate::specs::Lines::holder_line))]
 pub fn holder_text(h: Hold) -> Text
     ensures { result ≡ text_of (holder_line h) }
 {

@@ -1,4 +1,6 @@
 // What the programs print: each text is a function of the answer, built up piece by piece and written at once.
+#![tactic(auto)]
+
 mod holds;
 mod report;
 mod walks;
@@ -14,7 +16,7 @@ pub use report::{refused_text, report_text};
 pub use walks::walk_text;
 
 // At most 192 bytes; what does not fit is left out.
-#[derive(Drop)]
+#[derive(Clone, Copy)]
 pub struct Text {
     pub bytes: [u8; 192],
     pub length: usize,
@@ -22,6 +24,7 @@ pub struct Text {
 
 impl Text {
     // No text yet.
+    #[tactic(auto, unfolding(crate::specs::Texts::text_of))]
     pub fn new() -> Text
         ensures { result ≡ text_of [] }
     {
@@ -32,6 +35,7 @@ impl Text {
     }
 
     // The text with a byte behind it, where there is room.
+    #[tactic(auto, unfolding(crate::specs::Texts::appended, crate::specs::Texts::with_byte))]
     fn with_byte(mut self, b: u8) -> Text
         ensures { result ≡ appended self (b ∷ []) }
     {
@@ -44,6 +48,7 @@ impl Text {
     }
 
     // The text with more behind it.
+    #[tactic(auto, using(crate::proofs::Laws::appended_more), unfolding(crate::specs::Texts::appended))]
     pub fn with(self, more: &[u8]) -> Text
         ensures { result ≡ appended self more.now }
     {
@@ -57,6 +62,7 @@ impl Text {
     }
 
     // The text with a decimal number behind it.
+    #[tactic(auto, using(crate::proofs::Laws::decimal_is))]
     pub fn with_decimal(self, n: u64) -> Text
         ensures { result ≡ appended self (decimal n) }
     {
@@ -66,6 +72,7 @@ impl Text {
     }
 
     // The text with a hexadecimal number behind it, in so many digits.
+    #[tactic(auto, using(crate::proofs::Laws::hex_is))]
     pub fn with_hex(self, n: u64, width: usize) -> Text
         requires width_nonzero { 0 < width }
         requires width_bound { width ≤ 16 }
@@ -78,6 +85,7 @@ impl Text {
     }
 
     // The text with a number after a space.
+    #[tactic(auto, using(crate::proofs::Laws::behind), unfolding(crate::specs::Texts::ascii, crate::specs::Lines::spaced))]
     fn with_number(self, n: u64) -> Text
         ensures { result ≡ appended self (spaced n) }
     {

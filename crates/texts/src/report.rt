@@ -9,6 +9,7 @@ use chassis::{Finding, Named, Shown};
 use ids::Target;
 
 // The text with the target that a number shows.
+#[tactic(auto, using(crate::proofs::Laws::behind), unfolding(crate::specs::Texts::appended, crate::specs::Texts::ascii, crate::specs::Lines::target_words))]
 fn with_target(text: Text, shown: Shown) -> Text
     ensures { result ≡ appended text (target_words shown) }
 {
@@ -22,6 +23,7 @@ fn with_target(text: Text, shown: Shown) -> Text
 }
 
 // The text with the ports that a number names, those of a target with why they hold it.
+#[tactic(auto, using(crate::proofs::Laws::behind), unfolding(crate::specs::Texts::appended, crate::specs::Texts::ascii, crate::specs::Lines::ports_words))]
 fn with_ports(text: Text, ports: Named) -> Text
     ensures { result ≡ appended text (ports_words ports) }
 {
@@ -34,6 +36,7 @@ fn with_ports(text: Text, ports: Named) -> Text
 }
 
 // `refused K`, with the target and the ports where they are named.
+#[tactic(auto, using(crate::proofs::Laws::begun), unfolding(crate::specs::Texts::ascii, crate::specs::Lines::refused_line))]
 pub fn refused_text(f: Finding) -> Text
     ensures { result ≡ text_of (refused_line f) }
 {
@@ -44,6 +47,7 @@ pub fn refused_text(f: Finding) -> Text
 }
 
 // `ports N` and `clear` with the byte `end` between them, or the refusal.
+#[tactic(auto, using(crate::proofs::Laws::begun), unfolding(crate::specs::Texts::ascii, crate::specs::Lines::report_lines))]
 pub fn report_text(count: u16, f: Finding, end: u8) -> Text
     ensures { result ≡ text_of (report_lines count f end) }
 {

@@ -9,6 +9,7 @@ use ids::PortNo;
 use paths::Path;
 
 // The text with the Function number of a configuration request.
+#[tactic(auto, using(crate::proofs::Laws::behind), unfolding(crate::specs::Texts::appended, crate::specs::Texts::ascii))]
 fn with_function(text: Text, config: bool, function: u8) -> Text
     ensures { result ≡ appended text (cond config (ascii " function" ++ spaced function) []) }
 {
@@ -19,6 +20,7 @@ fn with_function(text: Text, config: bool, function: u8) -> Text
 }
 
 // Where a packet ends; `config` tells a configuration request.
+#[tactic(auto, using(crate::proofs::Laws::begun, crate::proofs::Laws::behind), unfolding(crate::specs::Texts::ascii, crate::specs::Lines::each_spaced, crate::specs::Lines::end_line))]
 fn end_text(config: bool, end: End) -> Text
     ensures { result ≡ text_of (end_line config end) }
 {
@@ -35,6 +37,7 @@ fn end_text(config: bool, end: End) -> Text
 }
 
 // The text with the first of the places, each after a space.
+#[tactic(auto, using(crate::proofs::Laws::crossed_all, crate::proofs::Laws::crossed_more), unfolding(crate::specs::Texts::appended, crate::specs::Lines::each_spaced))]
 fn with_places(text: Text, places: [PortNo; 32], count: usize) -> Text
     ensures { result ≡ appended text (each_spaced (take count places)) }
 {
@@ -52,6 +55,7 @@ fn with_places(text: Text, places: [PortNo; 32], count: usize) -> Text
 }
 
 // Where a packet goes: its end, and on a second line the ports that it has crossed.
+#[tactic(auto, using(crate::proofs::Laws::begun), unfolding(crate::specs::Texts::ascii, crate::specs::Lines::walk_lines))]
 pub fn walk_text(config: bool, end: End, path: Path) -> Text
     ensures { result ≡ text_of (walk_lines config end path) }
 {

@@ -1,4 +1,6 @@
 // A call for the benchmarks (tools/bench.sh) alone: reading, which the controller's library does not export.
+#![tactic(auto)]
+
 ghost use Rattle.std.specs.Prelude.{◌≡◌};
 ghost use Rattle.picture.specs.Reading.{reading};
 ghost use Rattle.timing.specs.Codes.{reading_code};

@@ -1,4 +1,6 @@
 // Reads a picture from standard input and draws its tree.
+#![tactic(auto)]
+
 use libc::STDIN_FILENO;
 
 // One byte more than a picture may have, so that a longer input shows.

@@ -1,4 +1,6 @@
 // How the ports of a picture hang together: kinds, parents, children and chains (numbers 6 and 7).
+#![tactic(auto)]
+
 ghost use Rattle.std.specs.Prelude.{◌≡◌};
 ghost use Rattle.chassis.specs.Tree.{has_child_below, is_device_port, upstream_broken, downstream_broken, tree_broken, chain_too_long};
 ghost use Rattle.trees.specs.Trees.{count_of, tree_of};
@@ -8,6 +10,7 @@ use ids::PortNo;
 use registers::{kind_at, parent_at};
 
 // Whether one of the ports below number n is a child of q.
+#[tactic(auto, unfolding(chassis::specs::Tree::any_below))]
 pub fn has_child_below(s: &[u8], n: u8, q: PortNo) -> bool
     ensures { result ≡ has_child_below (tree_of s.now) n q.0 }
 {
@@ -21,6 +24,7 @@ pub fn has_child_below(s: &[u8], n: u8, q: PortNo) -> bool
 }
 
 // A root or downstream port without a child, where n is the count of ports.
+#[tactic(auto, unfolding(chassis::specs::Tree::is_device_port))]
 pub fn is_device_port(s: &[u8], n: u8, p: PortNo) -> bool
     requires { n ≡ count_of s.now }
     ensures { result ≡ is_device_port (tree_of s.now) p.0 }
@@ -29,6 +33,7 @@ pub fn is_device_port(s: &[u8], n: u8, p: PortNo) -> bool
 }
 
 // An upstream port below an upstream port, or below one that is a parent already.
+#[tactic(auto, unfolding(chassis::specs::Tree::upstream_broken))]
 fn upstream_broken(s: &[u8], p: PortNo) -> bool
     ensures { result ≡ upstream_broken (tree_of s.now) p.0 }
 {
@@ -37,6 +42,7 @@ fn upstream_broken(s: &[u8], p: PortNo) -> bool
 }
 
 // A downstream port that is not below an upstream port.
+#[tactic(auto, unfolding(chassis::specs::Tree::downstream_broken))]
 fn downstream_broken(s: &[u8], p: PortNo) -> bool
     ensures { result ≡ downstream_broken (tree_of s.now) p.0 }
 {
@@ -44,6 +50,7 @@ fn downstream_broken(s: &[u8], p: PortNo) -> bool
 }
 
 // Number 6.
+#[tactic(auto, unfolding(chassis::specs::Tree::tree_broken))]
 pub fn tree_broken(s: &[u8], p: PortNo) -> bool
     ensures { result ≡ tree_broken (tree_of s.now) p.0 }
 {
@@ -59,6 +66,7 @@ pub fn tree_broken(s: &[u8], p: PortNo) -> bool
 }
 
 // Number 7.
+#[tactic(auto, using(crate::proofs::Laws::above_stays), unfolding(chassis::specs::Tree::above, chassis::specs::Tree::chain_too_long, chassis::specs::Tree::one_above))]
 pub fn chain_too_long(s: &[u8], p: PortNo) -> bool
     ensures { result ≡ chain_too_long (tree_of s.now) p.0 }
 {

@@ -1,5 +1,7 @@
 // trial PATCH: what the judge says of the picture on standard input with the vectors in the file PATCH put in, printed as `report`
 // prints it.
+#![tactic(auto)]
+
 use libc::{PATH_MAX, STDERR_FILENO, STDIN_FILENO};
 
 fn print_lines<'a>(picture: &'a [u8], patch: &'a [u8]) {

@@ -3,6 +3,7 @@ ghost use Rattle.std.specs.Prelude.{◌≡◌, ℕ, ◌+◌, ◌*◌, ◌/◌, �
 ghost use Rattle.vectors.specs.Vectors.{is_set};
 
 // Entries 64 j to 64 j + 63; past the vector's bytes all are clear.
+#[tactic(auto, using(crate::proofs::Words::of_eight))]
 pub fn word(v: &[u8], j: u64) -> u64
     requires { j < 2 ^ 32 }
     ensures { (k : ℕ) → k < 64 → eqb (result / 2 ^ k % 2) 1 ≡ is_set v.now (64 * j + k) }

@@ -1,5 +1,7 @@
 // A vector of entries, as the RID, MEM Low and MEM High vectors all are: which entry applies to a target, whether it is
 // set, and the next entry that is.
+#![tactic(auto)]
+
 mod entries;
 mod looks;
 
@@ -11,7 +13,7 @@ pub use entries::word;
 use least::Found;
 
 // A vector's size in entries, the target where entry 0 begins, and its granularity: an entry stands for 2^scale targets.
-#[derive(Drop)]
+#[derive(Clone, Copy)]
 pub struct Settings {
     pub size: u64,
     pub start: u64,
@@ -19,6 +21,7 @@ pub struct Settings {
 }
 
 // The entry that applies to a target.
+#[tactic(auto, unfolding(crate::specs::Vectors::entry_of))]
 pub fn entry(g: Settings, t: u64) -> Found
     requires { g.scale < 64 }
     ensures { result ≡ entry_of g t }
@@ -35,6 +38,7 @@ pub fn entry(g: Settings, t: u64) -> Found
 }
 
 // Whether entry i is set; an entry past the vector's bytes is clear.
+#[tactic(auto, unfolding(crate::specs::Vectors::is_set))]
 pub fn is_set(v: &[u8], i: u64) -> bool
     ensures { result ≡ is_set v.now i }
 {
@@ -42,6 +46,7 @@ pub fn is_set(v: &[u8], i: u64) -> bool
 }
 
 // Whether the entry that applies to a target is set.
+#[tactic(auto, using(crate::proofs::Laws::hits_entry, crate::proofs::Laws::misses_entry))]
 pub fn hit(v: &[u8], g: Settings, t: u64) -> bool
     requires { g.scale < 64 }
     ensures { result ≡ hits v.now g t }
@@ -54,6 +59,7 @@ pub fn hit(v: &[u8], g: Settings, t: u64) -> bool
 
 // The next entry from `from` on, below the size, that is set, or, where that is wanted, clear. Bytes that hold none such are
 // stepped over.
+#[tactic(auto, using(least::proofs::Laws::at_is, least::proofs::Laws::none_empty, least::proofs::Laws::none_is, least::proofs::Laws::none_join, least::proofs::Laws::none_part, crate::proofs::Digits::sees_least, crate::proofs::Digits::sees_none))]
 pub fn next_entry(v: &[u8], want: bool, from: u64, size: u64) -> Found
     ensures { result ≡ first_in (entry_is v.now want) from size }
 {

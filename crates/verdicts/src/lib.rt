@@ -1,4 +1,6 @@
 // The check's verdict: the rows of the table one after the other, each with its least target and the ports that it names.
+#![tactic(auto)]
+
 ghost use Rattle.std.specs.Prelude.{true, ◌≡◌, ◌<◌};
 ghost use Rattle.least.specs.Least.{first_in};
 ghost use Rattle.chassis.specs.Chassis.{target_in, space_size};
@@ -25,6 +27,7 @@ fn target_in(space: Space, t: u64) -> Target
 }
 
 // What a faulty target shows: the first pair at it, or the lowest port, each with its hold on it.
+#[tactic(auto, unfolding(culprits::specs::Culprits::pair_at))]
 fn verdict_at<'a>(s: &'a [u8], patch: &'a [u8], n: u8, fault: Fault, t: Target) -> Verdict
     requires n_value { n ≡ count_of s.now }
     requires t_value { faulty fault (chassis_over s.now patch.now) t ≡ true }
@@ -49,6 +52,7 @@ fn verdict_at<'a>(s: &'a [u8], patch: &'a [u8], n: u8, fault: Fault, t: Target) 
 }
 
 // Numbers 11 to 14 and 18: a fault at the least target of a space.
+#[tactic(auto, using(crate::proofs::Laws::target_below, crate::proofs::Laws::target_passes))]
 fn fault_in<'a>(s: &'a [u8], patch: &'a [u8], n: u8, fault: Fault, space: Space) -> Verdict
     requires { n ≡ count_of s.now }
     ensures { result ≡ at_least (chassis_over s.now patch.now) fault space (least_target (faulty fault (chassis_over s.now patch.now)) space) }
@@ -60,6 +64,7 @@ fn fault_in<'a>(s: &'a [u8], patch: &'a [u8], n: u8, fault: Fault, space: Space)
 }
 
 // Number 15.
+#[tactic(auto, using(culprits::proofs::LowestPort::port_small))]
 fn own_id_lost<'a>(s: &'a [u8], patch: &'a [u8], n: u8) -> Verdict
     requires { n ≡ count_of s.now }
     ensures { result ≡ lost_at (first_in (own_id_lost (chassis_over s.now patch.now)) 0 (count_of s.now)) }
@@ -71,6 +76,7 @@ fn own_id_lost<'a>(s: &'a [u8], patch: &'a [u8], n: u8) -> Verdict
 }
 
 // What a row of the table finds in a picture of n ports, whatever the other rows find.
+#[tactic(auto, unfolding(chassis::specs::Check::row_of))]
 pub fn of_row<'a>(s: &'a [u8], patch: &'a [u8], n: u8, row: Row) -> Verdict
     requires { n ≡ count_of s.now }
     ensures { result ≡ row_of (chassis_over s.now patch.now) row }
@@ -82,6 +88,7 @@ pub fn of_row<'a>(s: &'a [u8], patch: &'a [u8], n: u8, row: Row) -> Verdict
 }
 
 // The verdict of the rows before, or what the next row finds, which is looked for only where they are clear.
+#[tactic(auto, unfolding(chassis::specs::Check::or_next))]
 fn or_row<'a>(s: &'a [u8], patch: &'a [u8], n: u8, before: Verdict, next: Row) -> Verdict
     requires { n ≡ count_of s.now }
     ensures { result ≡ or_next before (row_of (chassis_over s.now patch.now) next) }
@@ -96,6 +103,7 @@ fn or_row<'a>(s: &'a [u8], patch: &'a [u8], n: u8, before: Verdict, next: Row) -
 }
 
 // The first row that is not clear, of a picture of n ports.
+#[tactic(auto, using(crate::proofs::Laws::rows_chained), unfolding(chassis::specs::Check::verdict_of))]
 pub fn verdict<'a>(s: &'a [u8], patch: &'a [u8], n: u8) -> Verdict
     requires { n ≡ count_of s.now }
     ensures { result ≡ verdict_of (chassis_over s.now patch.now) }

@@ -183,7 +183,7 @@ module _ {M : Type 1} {𝓤 : Ura M} (𝓛 : Logic 𝓤) (mem : Memory → SProp
       → ent 𝓤 (⋆ 𝓛 ((‵ (flft κ₃ q₃) ⊛ ‵ ftrue) ∷ ‵ (fres γ' (u32.coded.code m)) ∷ tok-stand ∷ ‵ (finally R γ l) ∷ ‵ Own-z ∷ ‵ (flft κ₀ q₀) ∷ ‵ Own-x ∷ [])) (Post (vint w32 N))
   exits l m el len em fits =
       qed 𝓛 ((‵ (flft κ₃ q₃) ⊛ ‵ ftrue) ∷ ‵ (fres γ' (u32.coded.code m)) ∷ tok-stand ∷ ‵ (finally R γ l) ∷ ‵ Own-z ∷ ‵ (flft κ₀ q₀) ∷ ‵ Own-x ∷ []) ∵
-      suffices ! _ (ends_at 𝓛 f.ended stayed (f.clauses 𝓛 mem run) ((κs, qs, tt, a, at), tt) (vint w32 N) N (tt, (l, (tt, (tt, (m, tt))))) (tt, (len, (tt, (tt, (tt, tt)))))) $ says ! (record { number_is = refl; room-is = el; kept-is = em }) $
+      suffices ! _ (ends_at 𝓛 f.ended stayed (f.clauses 𝓛 mem run) ((κs, qs, tt, a, at), tt) (vint w32 N) N (tt, (l, (tt, (tt, (m, tt))))) (tt, (len, (tt, (tt, (tt, tt)))))) $ says ! (record { number_is = refl; room_is = el; kept_is = em }) $
       move ! (2 ∷ []) $ split ! $ move ! (1 ∷ []) $ split ! $ move ! (0 ∷ 3 ∷ []) $ join ! $ move ! (2 ∷ 0 ∷ []) $ join ! $ move ! (5 ∷ 0 ∷ []) $ join ! $ frame ! $
       -- [true; what says the number kept; what says the room; what run owns; what first owns]
       move ! (1 ∷ 0 ∷ []) $ fjoin ! $ owned ! u32 (Is u32) (uint_Makes 𝓛 w32) kept _ (refl, kept-fits) $ fjoin ! $ move ! (2 ∷ 0 ∷ []) $ fjoin ! $ move ! (1 ∷ 0 ∷ []) $ fjoin ! $ move ! (1 ∷ 0 ∷ []) $ fjoin ! $ frame ! $

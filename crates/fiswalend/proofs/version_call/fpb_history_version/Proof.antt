@@ -147,7 +147,7 @@ module _ {M : Type 1} {𝓤 : Ura M} (𝓛 : Logic 𝓤) (mem : Memory → SProp
     exits i e =
         qed 𝓛 (Holds (w i) []) ∵
         suffices ! _ (ends_at 𝓛 f.ended stayed (f.clauses 𝓛 mem run) (((κ, (κ', (κ'', tt))), (q, (q', (q'', tt))), tt, a, at), tt) (vint w32 number) number (tt, (tt, (w i, (tt, (tt, tt))))) (tt, (tt, (same i, (tt, (tt, tt)))))) $
-        says ! (record { number_is = number_is; buffer-is = ap w (e ∙ n-is) ∙ after_all xs ys out kept-n k number number_is }) $
+        says ! (record { number_is = number_is; buffer_is = ap w (e ∙ n-is) ∙ after_all xs ys out kept-n k number number_is }) $
         move ! (4 ∷ []) $ split ! $ move ! (4 ∷ 1 ∷ []) $ join ! $ move ! (1 ∷ 0 ∷ []) $ join ! $ move ! (1 ∷ []) $ split ! $ move ! (1 ∷ []) $ drop ! $ join ! $ frame ! $
         nothing ! $ owned ! u32 (Is u32) (uint_Makes 𝓛 w32) k _ (refl, k-fits) $ fjoin ! $ owned ! u32 (Is u32) (uint_Makes 𝓛 w32) kept-n _ (refl, kept-fits) $ fjoin ! $
         move ! (2 ∷ 0 ∷ []) $ fjoin ! $ move ! (2 ∷ 0 ∷ []) $ fjoin ! $ move ! (1 ∷ 0 ∷ []) $ fjoin ! $ frame ! $

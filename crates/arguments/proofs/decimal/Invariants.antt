@@ -1,0 +1,5 @@
+use Rattle.std.proofs.Common.{length, ◌-◌}
+use Rattle.arguments.proofs.decimal.Given as goal
+
+abbrev pub decreases-loop : goal.decreases-loop
+decreases-loop l = length l.word - l.i

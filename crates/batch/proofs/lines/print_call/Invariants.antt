@@ -1,0 +1,5 @@
+use Rattle.std.proofs.Common.{◌-◌}
+use Rattle.batch.proofs.lines.print_call.Given as goal
+
+abbrev pub decreases-loop : goal.decreases-loop
+decreases-loop l = 40 - l.i

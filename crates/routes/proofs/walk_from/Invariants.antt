@@ -1,0 +1,6 @@
+use Rattle.claims.specs.Over.{chassis_over}
+use Rattle.chassis.proofs.Steps.{left}
+use Rattle.routes.proofs.walk_from.Given as goal
+
+abbrev pub decreases-loop : goal.decreases-loop
+decreases-loop l = left (chassis_over l.s l.patch) l.whereabouts

@@ -1,0 +1,10 @@
+use Rattle.least.proofs.Laws.{NoneIn}
+use Rattle.search.specs.Search.{meets}
+use Rattle.std.proofs.Common.{◌-◌, ◌^◌}
+use Rattle.search.proofs.least_both.Given as goal
+
+abbrev pub invariant-loop : goal.invariant-loop
+invariant-loop l = NoneIn (meets l.a l.va l.wa l.b l.vb l.wb l.want) 0 l.i
+
+abbrev pub decreases-loop : goal.decreases-loop
+decreases-loop l = 2 ^ 64 - l.i
