@@ -1,6 +1,10 @@
+use Rattle.routes.proofs.Laws.{Underway}
 use Rattle.claims.specs.Over.{chassis_over}
 use Rattle.chassis.proofs.Steps.{left}
 use Rattle.routes.proofs.walk_from.Given as goal
+
+abbrev pub invariant-loop : goal.invariant-loop
+invariant-loop l = Underway (chassis_over l.s l.patch) l.packet l.initial.whereabouts l.path l.whereabouts
 
 abbrev pub decreases-loop : goal.decreases-loop
 decreases-loop l = left (chassis_over l.s l.patch) l.whereabouts

@@ -3,8 +3,8 @@ use Rattle.spans.specs.Reaches.{misses}
 use Rattle.std.proofs.Common.{◌-◌, ◌^◌, ◌≤◌}
 use Rattle.spans.proofs.next_unreached.Given as goal
 
-abbrev pub invariant-loop : goal.invariant-loop
-invariant-loop l = (l.from ≤ l.i) × NoneIn (misses l.d l.v l.w) l.from l.i
+abbrev pub invariant-loop-k : goal.invariant-loop-k
+invariant-loop-k l = (l.from ≤ l.i) × NoneIn (misses l.d l.v l.w) l.from l.i
 
-abbrev pub decreases-loop : goal.decreases-loop
-decreases-loop l = 2 ^ 64 - l.i
+abbrev pub decreases-loop-k : goal.decreases-loop-k
+decreases-loop-k l = 2 ^ 64 - l.i
