@@ -3,8 +3,8 @@ use Rattle.picture.specs.Reading.{breaks}
 use Rattle.std.proofs.Common.{◌-◌, ◌≤◌}
 use Rattle.picture.proofs.lowest_culprit.Given as goal
 
-abbrev pub invariant-loop : goal.invariant-loop
-invariant-loop l = (l.p ≤ l.n) × NoneIn (breaks l.rule l.s) 0 l.p
+abbrev pub invariant-loop-p : goal.invariant-loop-p
+invariant-loop-p l = (l.p ≤ l.n) × NoneIn (breaks l.rule l.s) 0 l.p
 
-abbrev pub decreases-loop : goal.decreases-loop
-decreases-loop l = l.n - l.p
+abbrev pub decreases-loop-p : goal.decreases-loop-p
+decreases-loop-p l = l.n - l.p

@@ -3,8 +3,8 @@ use Rattle.search.specs.Search.{meets}
 use Rattle.std.proofs.Common.{◌-◌, ◌^◌}
 use Rattle.search.proofs.least_both.Given as goal
 
-abbrev pub invariant-loop : goal.invariant-loop
-invariant-loop l = NoneIn (meets l.a l.va l.wa l.b l.vb l.wb l.want) 0 l.i
+abbrev pub invariant-loop-j : goal.invariant-loop-j
+invariant-loop-j l = NoneIn (meets l.a l.va l.wa l.b l.vb l.wb l.want) 0 l.i
 
-abbrev pub decreases-loop : goal.decreases-loop
-decreases-loop l = 2 ^ 64 - l.i
+abbrev pub decreases-loop-j : goal.decreases-loop-j
+decreases-loop-j l = 2 ^ 64 - l.i

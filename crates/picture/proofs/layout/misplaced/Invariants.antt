@@ -3,8 +3,8 @@ use Rattle.picture.specs.Layout.{place_wrong, running_offset}
 use Rattle.std.proofs.Common.{◌*◌, ◌+◌, ◌-◌, ◌^◌, ◌≡◌, ◌≤◌}
 use Rattle.picture.proofs.layout.misplaced.Given as goal
 
-abbrev pub invariant-loop : goal.invariant-loop
-invariant-loop l = (l.p ≤ l.n) × (l.offset ≡ running_offset l.s l.p) × (l.offset ≤ 2 ^ 22 + 12288 * l.p) × NoneIn (place_wrong l.s) 0 l.p
+abbrev pub invariant-loop-p : goal.invariant-loop-p
+invariant-loop-p l = (l.p ≤ l.n) × (l.offset ≡ running_offset l.s l.p) × (l.offset ≤ 2 ^ 22 + 12288 * l.p) × NoneIn (place_wrong l.s) 0 l.p
 
-abbrev pub decreases-loop : goal.decreases-loop
-decreases-loop l = l.n - l.p
+abbrev pub decreases-loop-p : goal.decreases-loop-p
+decreases-loop-p l = l.n - l.p

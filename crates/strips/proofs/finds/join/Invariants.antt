@@ -2,8 +2,8 @@ use Rattle.strips.specs.Strips.{Marks, words_of}
 use Rattle.std.proofs.Common.{length, ◌-◌, ◌≡◌, ◌≤◌}
 use Rattle.strips.proofs.finds.join.Given as goal
 
-abbrev pub invariant-loop : goal.invariant-loop
-invariant-loop l = (l.k ≤ l.words) × (length l.a ≡ length l.initial.a) × Marks l.initial.a l.a (words_of l.k l.b)
+abbrev pub invariant-loop-k : goal.invariant-loop-k
+invariant-loop-k l = (l.k ≤ l.words) × (length l.a ≡ length l.initial.a) × Marks l.initial.a l.a (words_of l.k l.b)
 
-abbrev pub decreases-loop : goal.decreases-loop
-decreases-loop l = l.words - l.k
+abbrev pub decreases-loop-k : goal.decreases-loop-k
+decreases-loop-k l = l.words - l.k
