@@ -31,7 +31,7 @@ pub struct Place {
 #[tactic(auto, using(picture::proofs::Laws::offset_same, crate::proofs::PatchedReads::place_both), unfolding(crate::specs::Halves::place_over))]
 pub fn lies_at(s: &[u8], patch: &[u8], p: PortNo, m: Mechanism) -> Place
     ensures value { result ≡ place_over s.now patch.now p.0 m }
-    ensures value_2 { (h : Header) → reading_with s.now patch.now ≡ Read h → result ≡ place_of s.now patch.now p.0 m }
+    ensures where_it_reads { (h : Header) → reading_with s.now patch.now ≡ Read h → result ≡ place_of s.now patch.now p.0 m }
 {
     let f = sizes_of(s, p);
     match row_of(patch, p) {
@@ -66,7 +66,7 @@ fn sought<'a>(s: &'a [u8], patch: &'a [u8], p: PortNo, m: Mechanism) -> &'a [u8]
 #[tactic(auto, using(crate::proofs::Sought::own_vector, crate::proofs::PatchedReads::vector_told))]
 pub fn vector<'a>(s: &'a [u8], patch: &'a [u8], p: PortNo, m: Mechanism) -> &'a [u8]
     ensures result_value { result.now ≡ vector_over s.now patch.now p.0 m }
-    ensures result_value_2 { (h : Header) → reading_with s.now patch.now ≡ Read h → result.now ≡ part_at (place_of s.now patch.now p.0 m) s.now patch.now }
+    ensures where_it_reads { (h : Header) → reading_with s.now patch.now ≡ Read h → result.now ≡ part_at (place_of s.now patch.now p.0 m) s.now patch.now }
 {
     if patch.len() == 0 {
         return picture::vector(s, p, m);
