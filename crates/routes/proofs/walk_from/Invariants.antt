@@ -3,8 +3,8 @@ use Rattle.claims.specs.Over.{chassis_over}
 use Rattle.chassis.proofs.Steps.{left}
 use Rattle.routes.proofs.walk_from.Given as goal
 
-abbrev pub invariant-loop : goal.invariant-loop
-invariant-loop l = Underway (chassis_over l.s l.patch) l.packet l.initial.whereabouts l.path l.whereabouts
+abbrev pub invariant-loop-end : goal.invariant-loop-end
+invariant-loop-end l = Underway (chassis_over l.s l.patch) l.packet l.initial.whereabouts l.path l.whereabouts
 
-abbrev pub decreases-loop : goal.decreases-loop
-decreases-loop l = left (chassis_over l.s l.patch) l.whereabouts
+abbrev pub decreases-loop-end : goal.decreases-loop-end
+decreases-loop-end l = left (chassis_over l.s l.patch) l.whereabouts
