@@ -5,7 +5,6 @@
 mod faults;
 mod meetings;
 mod pairs;
-mod places;
 mod strays;
 mod taken;
 mod video;

@@ -4,8 +4,8 @@ use Rattle.chassis.specs.Check.{least_target}
 use Rattle.std.proofs.Common.{◌-◌, ◌≡◌, ◌≤◌}
 use Rattle.overlaps.proofs.faults.least_beside.Given as goal
 
-abbrev pub invariant-loop : goal.invariant-loop
-invariant-loop l = (l.p ≤ l.n) × (l.best ≡ least_target (faulty_to l.fault (chassis_beside l.s l.patch) l.p) l.space)
+abbrev pub invariant-loop-p : goal.invariant-loop-p
+invariant-loop-p l = (l.p ≤ l.n) × (l.best ≡ least_target (faulty_to l.fault (chassis_beside l.s l.patch) l.p) l.space)
 
-abbrev pub decreases-loop : goal.decreases-loop
-decreases-loop l = l.n - l.p
+abbrev pub decreases-loop-p : goal.decreases-loop-p
+decreases-loop-p l = l.n - l.p

@@ -4,8 +4,8 @@ use Rattle.overlaps.proofs.Folds.{seen}
 use Rattle.std.proofs.Common.{◌-◌, ◌≡◌, ◌≤◌}
 use Rattle.overlaps.proofs.pairs.with_pairs.Given as goal
 
-abbrev pub invariant-loop : goal.invariant-loop
-invariant-loop l = (l.q ≤ l.n) × (l.found ≡ least_target (seen (chassis_beside l.s l.patch) l.p l.q) l.space)
+abbrev pub invariant-loop-q : goal.invariant-loop-q
+invariant-loop-q l = (l.q ≤ l.n) × (l.found ≡ least_target (seen (chassis_beside l.s l.patch) l.p l.q) l.space)
 
-abbrev pub decreases-loop : goal.decreases-loop
-decreases-loop l = l.n - l.q
+abbrev pub decreases-loop-q : goal.decreases-loop-q
+decreases-loop-q l = l.n - l.q

@@ -1,0 +1,11 @@
+use Rattle.std.proofs.Common.{◌∙◌}
+use Rattle.claims.specs.Beside.{chassis_beside}
+use Rattle.overlaps.proofs.Folds.{with_taken}
+use Rattle.overlaps.proofs.taken.with_taken.Goals as goal
+
+pub returns : goal.returns
+returns c =
+    c.least_meeting.ensures
+    ∙ rw c.parent_at.ensures
+    (with_taken (chassis_beside c.args.s.now c.args.patch.now) c.args.space c.args.p.0 c.requires
+    (λ e. c.if-kind_at-eq-ROOT_PORT.false (c.kind_at.ensures ∙ e)))
