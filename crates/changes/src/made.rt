@@ -55,6 +55,6 @@ pub fn lay_first(first: &[u8], out: &mut [u8], number: u32)
     ensures { out.new ≡ unless_refused number (first.now ++ drop (length first.now) out.old) out.old }
 {
     if number == 0 {
-        bytes::copy(first, out);
+        out[..first.len()].copy_from_slice(first);
     }
 }

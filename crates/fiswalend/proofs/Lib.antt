@@ -1,4 +1,3 @@
 pub mod Forty
 pub mod CheckCalls
 pub mod WalkCalls
-pub mod VersionCalled

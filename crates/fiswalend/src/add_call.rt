@@ -5,8 +5,7 @@ use changes::{Change, keep};
 use history::{number_of_adding, stand};
 
 // Adds a run behind the changes kept, whole or not at all, and says how many are kept then.
-#[unsafe(no_mangle)]
-pub extern "C" fn fpb_history_add(
+pub fn fpb_history_add(
     first: &[u8],
     room: &mut [Change],
     run: &[Change],

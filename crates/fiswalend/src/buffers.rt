@@ -10,6 +10,6 @@ pub fn write(forty: [u8; ANSWER_BYTES], answer: &mut [u8]) -> u32
     ensures value { result ≡ get_or forty 0 0 }
     ensures answer_after { answer.new ≡ forty ++ drop 40 answer.old }
 {
-    bytes::copy(&forty, answer);
+    answer[..ANSWER_BYTES].copy_from_slice(&forty);
     forty[0] as u32
 }

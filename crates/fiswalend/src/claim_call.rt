@@ -30,14 +30,7 @@ fn decoder_bits(d: Decoders) -> u32
 }
 
 // The number, and where it is 0 the decoders of the port that claim the target.
-#[unsafe(no_mangle)]
-pub extern "C" fn fpb_claim(
-    picture: &[u8],
-    port: u32,
-    kind: u32,
-    target: u64,
-    decoders: &mut u32,
-) -> u32
+pub fn fpb_claim(picture: &[u8], port: u32, kind: u32, target: u64, decoders: &mut u32) -> u32
     ensures { ClaimCall (claim_answer picture.now port kind target) decoders.old result decoders.new }
 {
     match claim(picture, port, kind, target) {

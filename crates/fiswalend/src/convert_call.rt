@@ -20,8 +20,7 @@ fn conversion_code(decided: Conversion) -> u32
 }
 
 // The number, and where it is 0 what the port decides.
-#[unsafe(no_mangle)]
-pub extern "C" fn fpb_convert(picture: &[u8], port: u32, target: u64, decided: &mut u32) -> u32
+pub fn fpb_convert(picture: &[u8], port: u32, target: u64, decided: &mut u32) -> u32
     ensures { ConvertCall (convert_answer picture.now port target) decided.old result decided.new }
 {
     match convert(picture, port, target) {

@@ -1,5 +1,5 @@
-// The calls for the chassis controller, which is written in C: include/fiswalend.h has them for C, and says what the caller
-// must see to.
+// The calls for the chassis controller, which is written in C: the crate fiswalend_c exports them, and include/fiswalend.h has
+// them for C and says what the caller must see to.
 #![tactic(auto)]
 
 mod add_call;

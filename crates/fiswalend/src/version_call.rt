@@ -5,14 +5,7 @@ use changes::{Change, changes_in, lay_first, make_change, version_number};
 use history::record_at;
 
 // Writes version k into a buffer: the first picture, then the first k changes made.
-#[unsafe(no_mangle)]
-pub extern "C" fn fpb_history_version(
-    first: &[u8],
-    room: &[Change],
-    out: &mut [u8],
-    kept: u32,
-    k: u32,
-) -> u32
+pub fn fpb_history_version(first: &[u8], room: &[Change], out: &mut [u8], kept: u32, k: u32) -> u32
     ensures { VersionCall first.now room.now kept k out.old result out.new }
 {
     let number = version_number(first, room.len(), out.len(), kept, k);

@@ -4,8 +4,7 @@ ghost use Rattle.fiswalend.specs.History.{WindBackCall};
 use changes::wind_back_number;
 
 // Winds back to version k: the changes behind it are dropped, and the next run stands in their room.
-#[unsafe(no_mangle)]
-pub extern "C" fn fpb_history_wind_back(kept: u32, k: u32, now_kept: &mut u32) -> u32
+pub fn fpb_history_wind_back(kept: u32, k: u32, now_kept: &mut u32) -> u32
     ensures { WindBackCall kept k now_kept.old result now_kept.new }
 {
     let number = wind_back_number(kept, k);

@@ -7,6 +7,7 @@ use crate::records::record_at;
 use changes::{Change, adding_number, as_far, first_byte, held_in, lower_number, reading_number};
 
 // Looks at each change of the run: whether its byte exists, and what it is after the changes kept and those before it in the run.
+#[tactic(auto, using(changes::proofs::Reading::few_ports, changes::proofs::Reading::reads_far, changes::proofs::Rooms::held_within))]
 pub fn number_of_adding(first: &[u8], room: &[Change], run: &[Change], kept: u32) -> u32
     ensures { result ≡ adding_number first.now room.now run.now kept }
 {

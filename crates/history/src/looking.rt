@@ -6,6 +6,7 @@ use crate::records::record_at;
 use changes::{Change, held_after};
 
 // What the byte that c names is after the first k changes, if it was `held` before them.
+#[tactic(auto, using(crate::proofs::Turns::looked_none, crate::proofs::Turns::looked_more))]
 pub fn byte_before(changes: &[Change], k: usize, c: Change, held: u8) -> u8
     requires { k ≤ length changes.now }
     ensures { result ≡ held_up_to changes.now c held k }

@@ -6,6 +6,7 @@ use crate::records::{record_at, set_record};
 use changes::{Change, as_far, held_in};
 
 // Writes the run behind the changes kept, unless a number refuses.
+#[tactic(auto, using(changes::proofs::Rooms::held_within, changes::proofs::Stood::stood_length, crate::proofs::Turns::stood_none, crate::proofs::Turns::stood_more))]
 pub fn stand(room: &mut [Change], run: &[Change], kept: u32, number: u32)
     requires { number ≡ 0 → kept + length run.now ≤ length room.old }
     ensures { room.new ≡ unless_refused number (behind room.old kept run.now) room.old }
