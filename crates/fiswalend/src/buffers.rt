@@ -4,7 +4,7 @@ ghost use Rattle.std.specs.Prelude.{◌++◌, ◌≡◌, ◌≤◌, length, drop
 use answers::ANSWER_BYTES;
 
 // Writes an answer, keeps the rest of the buffer, and gives back the answer's number.
-#[tactic(auto, using(crate::proofs::Forty::copied_40))]
+#[tactic(auto, using(crate::proofs::Forty::copied_40, crate::proofs::Forty::fits_40))]
 pub fn write(forty: [u8; ANSWER_BYTES], answer: &mut [u8]) -> u32
     requires { 40 ≤ length answer.old }
     ensures value { result ≡ get_or forty 0 0 }

@@ -8,7 +8,6 @@ use answers::ANSWER_BYTES;
 use judge::{check, check_finding};
 
 // Whether a picture is sound: the number, and the answer in the buffer.
-#[tactic(auto, using(crate::proofs::CheckCalls::left_17, crate::proofs::CheckCalls::left_40))]
 pub fn fpb_check(picture: &[u8], answer: &mut [u8]) -> u32
     ensures { CheckCall (check_answer picture.now) answer.old result answer.new }
 {

@@ -8,7 +8,6 @@ use answers::ANSWER_BYTES;
 use judge::{check_finding, trial_check};
 
 // Whether a picture would be sound with the patch's vectors put in: the number, and the answer in the buffer.
-#[tactic(auto, using(crate::proofs::CheckCalls::left_17, crate::proofs::CheckCalls::left_40))]
 pub fn fpb_trial_check<'a>(picture: &'a [u8], patch: &'a [u8], answer: &mut [u8]) -> u32
     ensures { CheckCall (trial_check picture.now patch.now) answer.old result answer.new }
 {
