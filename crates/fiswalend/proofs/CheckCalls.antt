@@ -1,7 +1,7 @@
 -- What the check call returns and leaves is as its definition says. Assumes nothing.
 use Prim.Native.Nat.{ℕ, ◌<◌, ◌≤◌}
 use mathlib.Core.List.{List, ◌++◌}
-use mathlib.Core.Path.{◌≡◌, refl, sym, ap, ◌∙◌}
+use mathlib.Core.Path.{◌≡◌, refl, ap, ◌∙◌}
 use lib.ListN.{length, drop, get_or}
 use Rattle.answers.specs.Answers.{head_bytes, answer_bytes}
 use Rattle.chassis.specs.declared.Finding.{Finding}

@@ -2,7 +2,6 @@
 -- little-endian in the first 8 places of the path"; 18 names them "as 13 does" (02, Item 7).
 use Rattle.std.specs.Prelude.{ℕ, List}
 use Rattle.ids.specs.declared.PortNo.{PortNo}
-use Rattle.ids.specs.declared.Target.{Target}
 use Rattle.ids.specs.declared.Target.TheVariants.{Id, Addr}
 use Rattle.ids.specs.Ids.{no_port}
 use Rattle.chassis.specs.declared.Finding.{Finding}

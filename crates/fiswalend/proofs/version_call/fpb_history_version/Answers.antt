@@ -1,7 +1,6 @@
-use Rattle.std.proofs.Common.{length, refl, sym, ap, ◌∙◌, arith}
-use Rattle.changes.specs.Versions.{made_up_to}
+use Rattle.std.proofs.Common.{length, sym, ◌∙◌, arith}
 use Rattle.changes.proofs.BackRead.{back_zero}
-use Rattle.changes.proofs.Turns.{Turn, turn, before_any, one_more, after_turns}
+use Rattle.changes.proofs.Turns.{turn, before_any, one_more, after_turns}
 use Rattle.fiswalend.proofs.version_call.fpb_history_version.Goals as goal
 
 pub lay_first-requires : goal.lay_first-requires
