@@ -1,22 +1,18 @@
 -- Demand 3: where a target is neither shared nor astray, from the host and from every device port a packet comes to the same end, in
 -- at most 32 crossings, and no place on the way has two holders; except that a device port that itself claims the target refuses
 -- its own device.
-use Prim.Native.Nat.{ℕ, ◌≤◌}
 use mathlib.Core.Bool.{true, false}
-use mathlib.Core.List.{List, []}
+use mathlib.Core.List.{List}
 use mathlib.Core.Path.{◌≡◌, subst}
 use native.Mathlib.Nat.{le_trans}
-use lib.ListN.{length}
 use Rattle.ids.specs.declared.PortNo.{PortNo}
 use Rattle.ids.specs.declared.Target.{Target}
 use Rattle.chassis.specs.declared.End.{End}
-use Rattle.chassis.specs.declared.End.TheVariants.{Unsupported}
-use Rattle.chassis.specs.declared.Holders.TheVariants.{Both}
 use Rattle.chassis.specs.declared.Packet.TheVariants.{Plain}
 use Rattle.chassis.specs.declared.Whereabouts.{Whereabouts}
 use Rattle.chassis.specs.declared.Whereabouts.TheVariants.{Root}
-use Rattle.chassis.specs.Chassis.{Chassis, holds, lowest_at}
-use Rattle.chassis.specs.Tree.{root, is_device_port}
+use Rattle.chassis.specs.Chassis.{Chassis}
+use Rattle.chassis.specs.Tree.{is_device_port}
 use Rattle.chassis.specs.Walk.{is_redirected, starts_at, Walk}
 use Rattle.chassis.specs.OneEnd.{NoTwoHolders, Comes, OneEnd, place_of}
 use Rattle.chassis.proofs.Tree.{Sane}

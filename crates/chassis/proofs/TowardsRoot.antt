@@ -1,22 +1,20 @@
 -- A redirected packet comes to the root, and from there to where the host's packet comes; so does whatever starts below a device port
 -- that does not claim its clean target.
 use Prim.Native.Nat.{ℕ, ◌<◌}
-use mathlib.Core.Bool.{Bool, true, false, cond}
+use mathlib.Core.Bool.{Bool, true, false}
 use mathlib.Core.List.{List, []}
 use mathlib.Core.Path.{◌≡◌, refl, sym, ap, ◌∙◌, subst}
 use native.Mathlib.Omega.{arith}
-use borrow.Author.Tests.{ne_eqb}
 use Rattle.ids.specs.declared.PortNo.{PortNo}
 use Rattle.ids.specs.declared.Target.{Target}
 use Rattle.chassis.specs.declared.End.{End}
 use Rattle.chassis.specs.declared.End.TheVariants.{Unsupported}
 use Rattle.chassis.specs.declared.Packet.TheVariants.{Plain}
-use Rattle.chassis.specs.declared.Step.TheVariants.{Cross}
 use Rattle.chassis.specs.declared.Whereabouts.{Whereabouts}
-use Rattle.chassis.specs.declared.Whereabouts.TheVariants.{Root, From, Redirected}
+use Rattle.chassis.specs.declared.Whereabouts.TheVariants.{From, Redirected}
 use Rattle.ids.specs.Ids.{port_no}
 use Rattle.chassis.specs.Chassis.{Chassis}
-use Rattle.chassis.specs.Tree.{root, root_port, is_device_port}
+use Rattle.chassis.specs.Tree.{root_port, is_device_port}
 use Rattle.chassis.specs.Walk.{come_to, towards_root, is_redirected, starts_at, next, Walk}
 use Rattle.chassis.proofs.Tree.{Sane, root_port_parent, other_parent, by_parents}
 use Rattle.chassis.proofs.Walks.{walk_rest}

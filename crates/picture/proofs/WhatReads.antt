@@ -1,22 +1,20 @@
 -- What holds of a picture that reads: none of the table's numbers 1 to 10 applies, its tree is sane, and each vector lies in it whole.
 -- Assumes nothing.
-use Prim.Native.Nat.{ℕ, zero, suc, zero-le, ◌+◌, ◌-◌, ◌≤◌, ◌<◌, min}
-use mathlib.Core.Bool.{Bool, true, false, not, cond}
+use Prim.Native.Nat.{ℕ, zero, suc, zero-le, ◌+◌, ◌≤◌, ◌<◌}
+use mathlib.Core.Bool.{Bool, true, false, cond}
 use mathlib.Core.List.{List}
-use mathlib.Core.Path.{◌≡◌, refl, sym, ap, ◌∙◌}
+use mathlib.Core.Path.{◌≡◌, refl, sym, ap}
 use native.Mathlib.Nat.{le_refl, le_trans}
 use native.Mathlib.Decide.{dec_lt}
 use native.Mathlib.Omega.{arith}
 use borrow.Author.Tests.{eqb-true, not-false}
-use lib.ListN.{length, take, drop, length-take, length-drop}
-use lib.Dec.{eqb}
+use lib.ListN.{length, length-drop}
 use lib.Seq.{length-take-le}
 use Rattle.least.proofs.Laws.{impossible, NoneIn, none_is, is_none}
 use Rattle.least.specs.declared.Found.{Found}
 use Rattle.least.specs.declared.Found.TheVariants.{At, Nothing}
 use Rattle.least.specs.Least.{first_in, or_else}
 use Rattle.chassis.proofs.Tree.{Sane}
-use Rattle.chassis.specs.Tree.{tree_broken, chain_too_long}
 use Rattle.registers.specs.declared.Mechanism.{Mechanism}
 use Rattle.registers.specs.declared.Mechanism.TheVariants.{Rid, Low, High}
 use Rattle.registers.specs.Record.{port_at}
@@ -25,7 +23,7 @@ use Rattle.trees.specs.Trees.{count_of, tree_of}
 use Rattle.picture.proofs.Laws.{count_of_lem, count_small}
 use Rattle.picture.specs.declared.Header.{Header}
 use Rattle.picture.specs.declared.Reading.{Reading}
-use Rattle.picture.specs.declared.Reading.TheVariants.{Read, Refused}
+use Rattle.picture.specs.declared.Reading.TheVariants.{Read}
 use Rattle.picture.specs.declared.Rule.{Rule}
 use Rattle.picture.specs.declared.Rule.TheVariants.{Tree, Chain, Settings, Start}
 use Rattle.picture.specs.Header.{header_of, length_wrong, edition_wrong, count_wrong, total_wrong, offset_wrong}

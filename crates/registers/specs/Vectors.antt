@@ -1,5 +1,5 @@
 -- 01, "Vector settings (001)": the table, a column for each mechanism.
-use Rattle.std.specs.Prelude.{ℕ, ◌+◌, ◌*◌, ◌/◌, ◌%◌, ◌^◌, Bool, cond, not, ◌&&◌, ◌||◌, eqb, leb, ltb}
+use Rattle.std.specs.Prelude.{ℕ, ◌+◌, ◌*◌, ◌/◌, ◌%◌, ◌^◌, Bool, cond, eqb}
 use Rattle.vectors.specs.declared.Settings.{Settings}
 use Rattle.registers.specs.declared.Fpb.{Fpb}
 use Rattle.registers.specs.declared.Mechanism.{Mechanism}

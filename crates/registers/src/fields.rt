@@ -81,7 +81,6 @@ fn unit_scale(m: Mechanism) -> u32
 }
 
 // How many entries a vector has.
-#[tactic(auto, using(crate::proofs::Laws::size_small, crate::proofs::Laws::size_whole))]
 fn size(f: Fpb, m: Mechanism) -> u64
     ensures value { result ≡ size_of f m }
     ensures upper_bound { result ≤ 32768 }

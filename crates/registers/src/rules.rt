@@ -87,7 +87,6 @@ pub fn with_redirect(p: Port) -> bool
 }
 
 // How many targets an entry stands for.
-#[tactic(auto, using(crate::proofs::Laws::granule_whole))]
 fn granule(scale: u32) -> u64
     requires { scale < 64 }
     ensures value { result ≡ 2 ^ scale }

@@ -11,7 +11,6 @@ pub struct Seen {
 }
 
 // The entries from i on that lie in the bytes looked at.
-#[tactic(auto, using(crate::proofs::Digits::sees))]
 pub fn look(v: &[u8], want: bool, i: u64) -> Seen
     ensures i_le_last { (i ≤ result.last) × (result.last < i + 64) × (result.wanted < 2 ^ (result.last + 1 - i)) }
     ensures by_index { (k : ℕ) → k < result.last + 1 - i → eqb (result.wanted / 2 ^ k % 2) 1 ≡ entry_is v.now want (i + k) }
@@ -29,7 +28,6 @@ pub fn look(v: &[u8], want: bool, i: u64) -> Seen
 }
 
 // Entries 8 j to 8 j + 7; past the vector's bytes all are clear.
-#[tactic(auto, using(crate::proofs::Words::clear_wanted, crate::proofs::Words::of_byte, crate::proofs::Words::set_wanted))]
 fn wanted_byte(v: &[u8], want: bool, j: u64) -> u8
     ensures { (k : ℕ) → k < 8 → eqb (result / 2 ^ k % 2) 1 ≡ entry_is v.now want (8 * j + k) }
 {
@@ -38,7 +36,6 @@ fn wanted_byte(v: &[u8], want: bool, j: u64) -> u8
 }
 
 // Entries 64 j to 64 j + 63, whose bytes are there.
-#[tactic(auto, using(crate::proofs::Words::clear_wanted, crate::proofs::Words::of_eight, crate::proofs::Words::set_wanted))]
 fn wanted_word(v: &[u8], want: bool, j: u64) -> u64
     requires { 8 * j + 8 ≤ length v.now }
     ensures { (k : ℕ) → k < 64 → eqb (result / 2 ^ k % 2) 1 ≡ entry_is v.now want (64 * j + k) }

@@ -1,5 +1,4 @@
 use Rattle.picture.proofs.Laws.{misplaced_here, place_wrong_lem}
-use Rattle.std.proofs.Common.{◌<◌, arith}
 use Rattle.picture.proofs.layout.misplaced.Goals as goal
 
 pub returns-then-vectors_start-offset : goal.returns-then-vectors_start-offset
