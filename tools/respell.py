@@ -12,7 +12,7 @@ import os
 import re
 import sys
 
-TOKEN = re.compile(r"[A-Za-z_#][A-Za-z0-9_'#₀-₉·-]*")
+TOKEN = re.compile(r"(?<![0-9])[A-Za-z_#][A-Za-z0-9_'#₀-₉·-]*")
 HUMP = re.compile(r"^[a-z][A-Za-z0-9]*[a-z0-9][A-Z]")
 DECLARED = re.compile(r"^(\s*)((?:(?:abbrev|unfoldable|pub|record|data|infix[lr]?|\d+)\s+)*)([A-Za-z_][^\s:(){}\[\].,;]*)((?:\s*[({][^=]*)?\s*:\s|\s*$)")
 USE = re.compile(r"^(\s*)(?:pub )?(?:ghost )?use ([^\s{;*]+?)\.(?:\{([^}]*)\}|\*)", re.M)
