@@ -1,7 +1,7 @@
 -- The three demands, of the very definitions that the public calls promise, and what 02, Item 7, adds to them. Their proofs are in
--- proofs/Demands.antt, under the same names in small letters (demand-1, demand-1-buffer, demand-2, demand-3, overlap-exactly), and for a
--- picture and a patch in proofs/Trials.antt (trial-1, trial-2, trial-3, trial-overlap); of Item 7 both are in proofs/EveryPort.antt
--- (every-port-found, trial-every-port-found). 02, Item 2: "Demands 2 and 3 read "picture and patch" from then on, and
+-- proofs/Demands.antt, under the same names in small letters (demand_1, demand_1_buffer, demand_2, demand_3, overlap_exactly), and for a
+-- picture and a patch in proofs/Trials.antt (trial_1, trial_2, trial_3, trial_overlap); of Item 7 both are in proofs/EveryPort.antt
+-- (every_port_found, trial_every_port_found). 02, Item 2: "Demands 2 and 3 read "picture and patch" from then on, and
 -- a refused patch counts as one that does not read".
 mod Words
 use Words.*

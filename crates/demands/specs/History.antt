@@ -1,5 +1,5 @@
 -- 02, Item 11, of the very definitions that the history calls promise. The proofs are in proofs/Histories.antt, under the same names in
--- small letters (history-numbers, history-added, history-wound-back, history-refused, history-read-back, history-named).
+-- small letters (history_numbers, history_added, history_wound_back, history_refused, history_read_back, history_named).
 use Rattle.std.specs.Prelude.{ℕ, suc, ◌+◌, ◌<◌, ◌≤◌, true, List, [], ◌∷◌, ◌++◌, ◌↔◌, ◌≡◌, length, get_or, take, drop}
 use Rattle.least.specs.declared.Found.TheVariants.{At}
 use Rattle.changes.specs.declared.Change.{Change}
