@@ -50,10 +50,10 @@ unclaimed : (a : ℕ) → a < 0xA0000 → (c.claims 0 (Addr a) ≡ false) × (c.
 unfolding zeros u16 u32 header_in display_of displays u16_at u32_at bridge_at fpb_at port_at record_at vector_claims memory_claims prefetchable_claims low_claims high_claims vga_enabled video_claims memory_space_enabled address_decoders at_least_one
 unclaimed a below = (nothing, nothing)
   where
-    nothing : (((((between 0xFFF00000 0x000_fffff a || between 0xFFF00000 0x000_fffff a) || ltb a (2 ^ 32) && false) || leb (2 ^ 32) a && false)
+    nothing : (((((between 0xFFF00000 0x000FFFFF a || between 0xFFF00000 0x000FFFFF a) || ltb a (2 ^ 32) && false) || leb (2 ^ 32) a && false)
         || between 0xA0000 0xBFFFF a))
         ≡ false
-    nothing = simp (empty 0xFFF00000 0x000_fffff a (omega arith), and-false, lt-leb 0xA0000 a below)
+    nothing = simp (empty 0xFFF00000 0x000FFFFF a (omega arith), and-false, lt-leb 0xA0000 a below)
 
 unshared_address : (a : ℕ) → a < 0xA0000 → faulty Faulty-as-Shared c (Addr a) ≡ false
 unfolding zeros u16 u32 header_in display_of displays u16_at u32_at port_at record_at holds any_below clash clashes_with faulty
