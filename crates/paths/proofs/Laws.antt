@@ -1,13 +1,10 @@
 -- A path grows by one crossing at each step, and names the ports crossed and no others. Assumes nothing.
-use Prim.Native.Nat.{ℕ, zero, suc, ◌+◌, ◌-◌, ◌≤◌, ◌<◌}
+use Prim.Native.Nat.{ℕ, suc, ◌+◌, ◌-◌, ◌<◌}
 use mathlib.Core.List.{List, [], ◌∷◌, ◌++◌, append_assoc}
 use mathlib.Core.Path.{◌≡◌, refl, sym, ap, ◌∙◌}
 use native.Mathlib.Omega.{arith}
-use native.Mathlib.Numerals.{add-one}
-use lib.ListN.{length, replicate, set, take, drop, length-append}
-use lib.Seq.{set_split, take_at, drop_at}
+use lib.ListN.{length, replicate, set, length-append}
 use Rattle.ids.specs.declared.PortNo.{PortNo}
-use Rattle.paths.specs.declared.Path.{Path}
 use Rattle.ids.specs.Ids.{no_port}
 use Rattle.paths.specs.Paths.{path_of, extended}
 
