@@ -50,16 +50,16 @@ unfolding zeros u16 u32 header_in record_of switch_with u16_at u32_at bridge_at 
 buses n = (claims_id _ _ n ∙ or-false _, claims_id _ _ n ∙ or-false _, claims_id _ _ n ∙ or-false _, claims_id _ _ n ∙ or-false _)
 
 windows : (a : ℕ)
-    → (c.claims 0 (Addr a) ≡ between 0xE0000000 0x_e00_fffff a)
-    × (c.claims 1 (Addr a) ≡ between 0xE0000000 0x_e00_fffff a)
-    × (c.claims 2 (Addr a) ≡ between 0xE0000000 0x_e00_fffff a)
+    → (c.claims 0 (Addr a) ≡ between 0xE0000000 0xE00FFFFF a)
+    × (c.claims 1 (Addr a) ≡ between 0xE0000000 0xE00FFFFF a)
+    × (c.claims 2 (Addr a) ≡ between 0xE0000000 0xE00FFFFF a)
     × (c.claims 3 (Addr a) ≡ false)
 unfolding zeros u16 u32 header_in record_of switch_with u16_at u32_at bridge_at fpb_at port_at record_at vector_claims memory_claims prefetchable_claims low_claims high_claims vga_enabled video_claims memory_space_enabled address_decoders at_least_one
 windows a = (only_window, only_window, only_window, refl)
   where
-    only_window : ((((between 0xE0000000 0x_e00_fffff a || between 0xFFF00000 0x000_fffff a) || ltb a (2 ^ 32) && false) || leb (2 ^ 32) a && false) || false)
-        ≡ between 0xE0000000 0x_e00_fffff a
-    only_window = simp (empty 0xFFF00000 0x000_fffff a (omega arith), and-false, or-false)
+    only_window : ((((between 0xE0000000 0xE00FFFFF a || between 0xFFF00000 0x000FFFFF a) || ltb a (2 ^ 32) && false) || leb (2 ^ 32) a && false) || false)
+        ≡ between 0xE0000000 0xE00FFFFF a
+    only_window = simp (empty 0xFFF00000 0x000FFFFF a (omega arith), and-false, or-false)
 
 -- no ID is held by the two downstream ports, and what a port holds is claimed by its parent
 module _ (n : ℕ) where
