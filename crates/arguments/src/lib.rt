@@ -9,7 +9,7 @@ pub enum Number {
 
 // Whether two words are the same bytes.
 pub fn same(a: &[u8], b: &[u8]) -> bool {
-    check::same(a, b)
+    a == b
 }
 
 // The value of a decimal digit or of a hexadecimal one of either case.

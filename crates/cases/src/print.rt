@@ -2,77 +2,63 @@
 use chassis::{Conversion, End};
 use judge::{ConvertAnswer, Outcome, WalkAnswer};
 use least::Found;
-use libc::STDOUT_FILENO;
+use std::io;
 
 // The name of a case, which begins its line.
-pub fn case(n: u64) {
-    io::write_all(STDOUT_FILENO, b"C");
-    io::print_decimal(STDOUT_FILENO, n);
+pub fn case(rt: &impl Print, n: u64) -> io::Result<()> {
+    print!(rt; "C{n}")
 }
 
 // The end of a line.
-pub fn end() {
-    io::write_all(STDOUT_FILENO, b"\n");
+pub fn end(rt: &impl Print) -> io::Result<()> {
+    rt.print("\n")
 }
 
 // The entry that applies, or that none does.
-pub fn entry(found: Found) {
+pub fn entry(rt: &impl Print, found: Found) -> io::Result<()> {
     match found {
-        Found::At(i) => {
-            io::write_all(STDOUT_FILENO, b" entry ");
-            io::print_decimal(STDOUT_FILENO, i);
-        }
-        Found::Nothing => {
-            io::write_all(STDOUT_FILENO, b" no entry");
-        }
+        Found::At(i) => print!(rt; " entry {i}"),
+        Found::Nothing => rt.print(" no entry"),
     }
 }
 
 // Whether a decoder claims.
-pub fn claimed(claimed: bool) {
+pub fn claimed(rt: &impl Print, claimed: bool) -> io::Result<()> {
     if claimed {
-        io::write_all(STDOUT_FILENO, b" claimed");
+        rt.print(" claimed")
     } else {
-        io::write_all(STDOUT_FILENO, b" not claimed");
+        rt.print(" not claimed")
     }
 }
 
 // What a port decides, in the words of the paper.
-pub fn conversion(made: Conversion) {
+pub fn conversion(rt: &impl Print, made: Conversion) -> io::Result<()> {
     match made {
-        Conversion::NotClaimed => {
-            io::write_all(STDOUT_FILENO, b" not claimed");
-        }
-        Conversion::Type0 => {
-            io::write_all(STDOUT_FILENO, b" Type 0");
-        }
-        Conversion::Type1 => {
-            io::write_all(STDOUT_FILENO, b" Type 1");
-        }
-        Conversion::Unsupported => {
-            io::write_all(STDOUT_FILENO, b" Unsupported Request");
-        }
+        Conversion::NotClaimed => rt.print(" not claimed"),
+        Conversion::Type0 => rt.print(" Type 0"),
+        Conversion::Type1 => rt.print(" Type 1"),
+        Conversion::Unsupported => rt.print(" Unsupported Request"),
     }
 }
 
 // What the conversion call answers.
-pub fn answer(answer: ConvertAnswer) {
+pub fn answer(rt: &impl Print, answer: ConvertAnswer) -> io::Result<()> {
     match answer {
         ConvertAnswer::Refused(r) => {
-            io::write_all(STDOUT_FILENO, b" refused ");
-            io::print_decimal(STDOUT_FILENO, r.number as u64);
+            let number = r.number;
+            print!(rt; " refused {number}")
         }
-        ConvertAnswer::Converted(made) => conversion(made),
+        ConvertAnswer::Converted(made) => conversion(rt, made),
     }
 }
 
 // The Function number of a configuration request that ends at a device.
-pub fn function(answer: WalkAnswer) {
+pub fn function(rt: &impl Print, answer: WalkAnswer) -> io::Result<()> {
     let outcome = answer.outcome;
     if let Outcome::Ended(end) = outcome {
         if let End::Device(_, number) = end {
-            io::write_all(STDOUT_FILENO, b" Function ");
-            io::print_decimal(STDOUT_FILENO, number as u64);
+            return print!(rt; " Function {number}");
         }
     }
+    Ok(())
 }

@@ -2,12 +2,13 @@
 #![tactic(auto)]
 
 use arguments::Number;
-use libc::{STDERR_FILENO, STDIN_FILENO};
+use std::env::Env;
+use std::io;
 
 // The number that argument i stands for: the kind of target, then the target.
-fn argument(i: usize) -> Number {
+fn argument(rt: &impl Env, i: usize) -> Number {
     let mut word = [0u8; 32];
-    let n = os::arg(i, &mut word);
+    let n = inputs::word(rt, i, &mut word);
     if i == 1 {
         return arguments::target_kind(&word[..n]);
     }
@@ -15,27 +16,21 @@ fn argument(i: usize) -> Number {
 }
 
 // What is said to arguments that are not as they must be.
-fn print_usage() {
-    io::write_all(
-        STDERR_FILENO,
-        b"usage: claims id|addr TARGET <PICTURE; TARGET is hexadecimal\n",
-    );
+fn print_usage(rt: &impl Eprint) -> io::Result<()> {
+    eprintln!(rt; "usage: claims id|addr TARGET <PICTURE; TARGET is hexadecimal")
 }
 
-fn main() {
-    if os::arg_count() != 3 {
-        print_usage();
-        return;
+fn main(rt: HostRuntime) -> io::Result<()> {
+    if !inputs::has_word(&rt, 2) | inputs::has_word(&rt, 3) {
+        return print_usage(&rt);
     }
-    let Number::Is(kind) = argument(1) else {
-        print_usage();
-        return;
+    let Number::Is(kind) = argument(&rt, 1) else {
+        return print_usage(&rt);
     };
-    let Number::Is(target) = argument(2) else {
-        print_usage();
-        return;
+    let Number::Is(target) = argument(&rt, 2) else {
+        return print_usage(&rt);
     };
     let mut buffer = [0u8; 65537];
-    let n = io::read_full(STDIN_FILENO, &mut buffer);
-    reports::print_holders(&buffer[..n], arguments::clamped(kind), target, b'\n');
+    let n = inputs::read_full(&mut rt.stdin(), &mut buffer)?;
+    reports::print_holders(&rt, &buffer[..n], arguments::clamped(kind), target, b'\n')
 }

@@ -2,50 +2,44 @@
 // of the file PATCH put in, as `trial` does; and behind that a sentence in plain words.
 #![tactic(auto)]
 
-use libc::{PATH_MAX, STDERR_FILENO, STDIN_FILENO};
+use std::io;
+use std::io::Read;
 
-fn print_lines(picture: &[u8]) {
-    reports::report_lines(picture).print();
-    people::print_sentence(picture);
+fn print_lines(rt: &impl Print, picture: &[u8]) -> io::Result<()> {
+    reports::report_lines(picture).print(rt)?;
+    people::print_sentence(rt, picture)
 }
 
-fn print_trial_lines<'a>(picture: &'a [u8], patch: &'a [u8]) {
-    reports::trial_lines(picture, patch).print();
-    people::print_trial_sentence(picture, patch);
+fn print_trial_lines<'a>(rt: &impl Print, picture: &'a [u8], patch: &'a [u8]) -> io::Result<()> {
+    reports::trial_lines(picture, patch).print(rt)?;
+    people::print_trial_sentence(rt, picture, patch)
 }
 
 // The picture, read so far that one byte more than it may have shows.
-fn explain() {
+fn explain(rt: HostRuntime) -> io::Result<()> {
     let mut buffer = [0u8; 65537];
-    let n = io::read_full(STDIN_FILENO, &mut buffer);
-    print_lines(&buffer[..n]);
+    let n = inputs::read_full(&mut rt.stdin(), &mut buffer)?;
+    print_lines(&rt, &buffer[..n])
 }
 
 // The same of the picture and a patch; of a longer file the first 131,073 bytes are judged.
-fn explain_trial(file: i32) {
+fn explain_trial(rt: HostRuntime, file: &mut impl Read) -> io::Result<()> {
     let mut patch = [0u8; 131073];
-    let n = io::read_full(file, &mut patch);
+    let n = inputs::read_full(file, &mut patch)?;
     let mut picture = [0u8; 65537];
-    let m = io::read_full(STDIN_FILENO, &mut picture);
-    print_trial_lines(&picture[..m], &patch[..n]);
+    let m = inputs::read_full(&mut rt.stdin(), &mut picture)?;
+    print_trial_lines(&rt, &picture[..m], &patch[..n])
 }
 
-fn main() {
-    let count = os::arg_count();
-    if count < 2 {
-        explain();
-        return;
+fn main(rt: HostRuntime) -> io::Result<()> {
+    if !inputs::has_word(&rt, 1) {
+        return explain(rt);
     }
-    if 2 < count {
-        io::write_all(STDERR_FILENO, b"usage: explain [PATCH] <PICTURE\n");
-        return;
+    if inputs::has_word(&rt, 2) {
+        return eprintln!(rt; "usage: explain [PATCH] <PICTURE");
     }
-    let mut name = [0u8; PATH_MAX];
-    let length = os::arg(1, &mut name);
-    let file = os::open_read(&name[..length]);
-    if file < 0 {
-        os::fail(b"explain: the patch cannot be opened");
-        return;
+    match inputs::open(&rt, 1) {
+        Ok(mut file) => explain_trial(rt, &mut file),
+        Err(error) => inputs::say_failed(&rt, "explain: the patch cannot be opened", error),
     }
-    explain_trial(file);
 }

@@ -6,6 +6,7 @@ use registers::{
     Bridge, Fpb, Mechanism, Port, enabled, granularity_code, port_at, settings_wrong, size_code,
     start_wrong, supported, with_ari,
 };
+use std::io;
 
 // Registers of zeros.
 fn blank_bridge() -> Bridge {
@@ -82,98 +83,103 @@ fn with_bridge(port: Port) -> Port {
 }
 
 // Why a mechanism may break number 8: it is not supported, or the codes of its size and granularity.
-fn say_codes(f: Fpb, m: Mechanism) {
+fn say_codes(rt: &impl Print, f: Fpb, m: Mechanism) -> io::Result<()> {
     if !supported(f, m) {
-        say(b" is enabled but not supported");
-        return;
+        return say(rt, b" is enabled but not supported");
     }
-    say(b" has size code ");
-    say_number(size_code(f, m) as u64);
+    say(rt, b" has size code ")?;
+    say_number(rt, size_code(f, m) as u64)?;
     if enabled(f, m) {
-        say(b" and granularity code ");
-        say_number(granularity_code(f, m) as u64);
+        say(rt, b" and granularity code ")?;
+        say_number(rt, granularity_code(f, m) as u64)?;
     }
+    Ok(())
 }
 
 // `; its RID vector has size code 1`, if this mechanism breaks number 8.
-fn say_if_settings_wrong(port: Port, m: Mechanism) {
+fn say_if_settings_wrong(rt: &impl Print, port: Port, m: Mechanism) -> io::Result<()> {
     if !settings_wrong(with_mechanism(port, m)) {
-        return;
+        return Ok(());
     }
     let f = port.fpb;
-    say(b"; its ");
-    say_vector(m);
-    say_codes(f, m);
+    say(rt, b"; its ")?;
+    say_vector(rt, m)?;
+    say_codes(rt, f, m)
 }
 
 // A register by its name.
-fn say_register(name: &[u8], value: u16) {
-    say(name);
-    say(b" ");
-    say_hex(value as u64, 4);
+fn say_register(rt: &impl Print, name: &[u8], value: u16) -> io::Result<()> {
+    say(rt, name)?;
+    say(rt, b" ")?;
+    say_hex(rt, value as u64, 4)
 }
 
 // The memory registers, if they break number 8.
-fn say_if_memory_wrong(port: Port) {
+fn say_if_memory_wrong(rt: &impl Print, port: Port) -> io::Result<()> {
     if !settings_wrong(with_bridge(port)) {
-        return;
+        return Ok(());
     }
     let b = port.bridge;
-    say_register(b"; it has Memory Base", b.memory_base);
-    say_register(b" and Limit", b.memory_limit);
-    say_register(b", Prefetchable Memory Base", b.prefetchable_base);
-    say_register(b" and Limit", b.prefetchable_limit);
+    say_register(rt, b"; it has Memory Base", b.memory_base)?;
+    say_register(rt, b" and Limit", b.memory_limit)?;
+    say_register(rt, b", Prefetchable Memory Base", b.prefetchable_base)?;
+    say_register(rt, b" and Limit", b.prefetchable_limit)
 }
 
 // The two bytes that must be zero, if they are not.
-fn say_if_zeros_wrong(port: Port) {
+fn say_if_zeros_wrong(rt: &impl Print, port: Port) -> io::Result<()> {
     if port.zeros == 0 {
-        return;
+        return Ok(());
     }
-    say_register(b"; the two bytes after its ACS Control hold", port.zeros);
+    say_register(
+        rt,
+        b"; the two bytes after its ACS Control hold",
+        port.zeros,
+    )
 }
 
 // What in a port breaks number 8.
-pub fn say_wrong_settings(s: &[u8], p: PortNo) {
+pub fn say_wrong_settings(rt: &impl Print, s: &[u8], p: PortNo) -> io::Result<()> {
     let port = port_at(s, p);
-    say_if_settings_wrong(port, Mechanism::Rid);
-    say_if_settings_wrong(port, Mechanism::Low);
-    say_if_settings_wrong(port, Mechanism::High);
-    say_if_memory_wrong(port);
-    say_if_zeros_wrong(port);
+    say_if_settings_wrong(rt, port, Mechanism::Rid)?;
+    say_if_settings_wrong(rt, port, Mechanism::Low)?;
+    say_if_settings_wrong(rt, port, Mechanism::High)?;
+    say_if_memory_wrong(rt, port)?;
+    say_if_zeros_wrong(rt, port)
 }
 
 // That a port has ARI, which the start of a RID vector depends on.
-fn say_ari(port: Port, m: Mechanism) {
+fn say_ari(rt: &impl Print, port: Port, m: Mechanism) -> io::Result<()> {
     match m {
         Mechanism::Rid => {
             if with_ari(port) {
-                say(b", in a port with ARI");
+                return say(rt, b", in a port with ARI");
             }
+            Ok(())
         }
-        _ => {}
+        _ => Ok(()),
     }
 }
 
 // `; its MEM Low vector starts at 00800000 and has entries of 16 MiB`, if this mechanism breaks number 9.
-fn say_if_start_wrong(port: Port, m: Mechanism) {
+fn say_if_start_wrong(rt: &impl Print, port: Port, m: Mechanism) -> io::Result<()> {
     if !start_wrong(with_mechanism(port, m)) {
-        return;
+        return Ok(());
     }
     let f = port.fpb;
-    say(b"; its ");
-    say_vector(m);
-    say(b" starts at ");
-    say_start(f, m);
-    say(b" and has entries of ");
-    say_granule(f, m);
-    say_ari(port, m);
+    say(rt, b"; its ")?;
+    say_vector(rt, m)?;
+    say(rt, b" starts at ")?;
+    say_start(rt, f, m)?;
+    say(rt, b" and has entries of ")?;
+    say_granule(rt, f, m)?;
+    say_ari(rt, port, m)
 }
 
 // Which vectors of a port break number 9.
-pub fn say_wrong_starts(s: &[u8], p: PortNo) {
+pub fn say_wrong_starts(rt: &impl Print, s: &[u8], p: PortNo) -> io::Result<()> {
     let port = port_at(s, p);
-    say_if_start_wrong(port, Mechanism::Rid);
-    say_if_start_wrong(port, Mechanism::Low);
-    say_if_start_wrong(port, Mechanism::High);
+    say_if_start_wrong(rt, port, Mechanism::Rid)?;
+    say_if_start_wrong(rt, port, Mechanism::Low)?;
+    say_if_start_wrong(rt, port, Mechanism::High)
 }

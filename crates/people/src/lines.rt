@@ -7,47 +7,48 @@ use crate::settings::{say_vector_in_use, say_windows};
 use crate::words::{say, say_hex, say_id};
 use ids::PortNo;
 use registers::{Bridge, Mechanism, port_at, with_ari, with_redirect};
+use std::io;
 
 // The buses of the bus pair: `[01-04]`, `[01]`, and `[]` for a pair that claims nothing.
-fn say_buses(b: Bridge) {
-    say(b"[");
+fn say_buses(rt: &impl Print, b: Bridge) -> io::Result<()> {
+    say(rt, b"[")?;
     if (0 < b.subordinate) & (b.secondary <= b.subordinate) {
-        say_hex(b.secondary as u64, 2);
+        say_hex(rt, b.secondary as u64, 2)?;
     }
     if b.secondary < b.subordinate {
-        say(b"-");
-        say_hex(b.subordinate as u64, 2);
+        say(rt, b"-")?;
+        say_hex(rt, b.subordinate as u64, 2)?;
     }
-    say(b"]");
+    say(rt, b"]")
 }
 
 // `02:00.0-[03]  port 2, switch downstream port, device port`, then windows and vectors in use; n is the count of ports.
-pub fn say_line(s: &[u8], n: u8, p: PortNo)
+pub fn say_line(rt: &impl Print, s: &[u8], n: u8, p: PortNo) -> io::Result<()>
     requires { n ≡ count_of s.now }
 {
     let port = port_at(s, p);
     let b = port.bridge;
     let f = port.fpb;
-    say_id(port.own_id);
-    say(b"-");
-    say_buses(b);
-    say(b"  ");
-    say_number_of(p);
-    say(b", ");
-    say_kind(port.kind);
+    say_id(rt, port.own_id)?;
+    say(rt, b"-")?;
+    say_buses(rt, b)?;
+    say(rt, b"  ")?;
+    say_number_of(rt, p)?;
+    say(rt, b", ")?;
+    say_kind(rt, port.kind)?;
     let device_port = trees::is_device_port(s, n, p);
     if device_port {
-        say(b", device port");
+        say(rt, b", device port")?;
     }
     if with_ari(port) {
-        say(b", ARI");
+        say(rt, b", ARI")?;
     }
     if device_port & with_redirect(port) {
-        say(b", redirect");
+        say(rt, b", redirect")?;
     }
-    say_windows(b);
-    say_vector_in_use(s, p, f, Mechanism::Rid);
-    say_vector_in_use(s, p, f, Mechanism::Low);
-    say_vector_in_use(s, p, f, Mechanism::High);
-    say(b"\n");
+    say_windows(rt, b)?;
+    say_vector_in_use(rt, s, p, f, Mechanism::Rid)?;
+    say_vector_in_use(rt, s, p, f, Mechanism::Low)?;
+    say_vector_in_use(rt, s, p, f, Mechanism::High)?;
+    say(rt, b"\n")
 }

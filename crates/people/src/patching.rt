@@ -6,105 +6,102 @@ use lent::{u16_at, u32_at};
 use patches::{offset_at, port_in, port_misplaced, ports_in, row_at};
 use picture::all_bytes;
 use registers::port_at;
+use std::io;
 
 // `1 port`, `4 ports`.
-fn say_ports(n: u64) {
-    say_number(n);
+fn say_ports(rt: &impl Print, n: u64) -> io::Result<()> {
+    say_number(rt, n)?;
     if n == 1 {
-        say(b" port");
-        return;
+        return say(rt, b" port");
     }
-    say(b" ports");
+    say(rt, b" ports")
 }
 
 // Number 30; of a longer patch the first 131,073 bytes are judged.
-fn say_misfit(patch: &[u8]) {
+fn say_misfit(rt: &impl Print, patch: &[u8]) -> io::Result<()> {
     if patch.len() < 8 {
-        say(b": it has ");
-        say_bytes(patch.len());
-        return;
+        say(rt, b": it has ")?;
+        return say_bytes(rt, patch.len());
     }
-    say(b": its header says ");
-    say_bytes(u32_at(patch, 4) as usize);
-    say(b" and ");
-    say_ports(ports_in(patch) as u64);
-    say(b", and it has ");
+    say(rt, b": its header says ")?;
+    say_bytes(rt, u32_at(patch, 4) as usize)?;
+    say(rt, b" and ")?;
+    say_ports(rt, ports_in(patch) as u64)?;
+    say(rt, b", and it has ")?;
     if 131072 < patch.len() {
-        say(b"more than 131,072 bytes");
-        return;
+        return say(rt, b"more than 131,072 bytes");
     }
-    say_bytes(patch.len());
+    say_bytes(rt, patch.len())
 }
 
 // Number 31 at row i.
-fn say_port_at(patch: &[u8], n: u8, i: u32) {
+fn say_port_at(rt: &impl Print, patch: &[u8], n: u8, i: u32) -> io::Result<()> {
     let port = port_in(patch, i);
-    say(b": port ");
-    say_number(port as u64);
+    say(rt, b": port ")?;
+    say_number(rt, port as u64)?;
     if n as u32 <= port {
-        say(b" stands in it, and the picture has ");
-        say_ports(n as u64);
-        return;
+        say(rt, b" stands in it, and the picture has ")?;
+        return say_ports(rt, n as u64);
     }
-    say(b" stands behind port ");
+    say(rt, b" stands behind port ")?;
     if 0 < i {
-        say_number(port_in(patch, i - 1) as u64);
+        say_number(rt, port_in(patch, i - 1) as u64)?;
     }
+    Ok(())
 }
 
 // Number 31, of a picture of n ports, at the first row that is wrong.
-fn say_misplaced_port(patch: &[u8], n: u8) {
+fn say_misplaced_port(rt: &impl Print, patch: &[u8], n: u8) -> io::Result<()> {
     let count = ports_in(patch);
     let mut i: u32 = 0;
     while i < count {
         if port_misplaced(patch, n, i) {
-            say_port_at(patch, n, i);
-            return;
+            return say_port_at(rt, patch, n, i);
         }
         i += 1;
     }
+    Ok(())
 }
 
 // Number 32 at a row, and at the end.
-fn say_start(s: &[u8], p: PortNo, offset: u32, running: u64) {
-    say(b": those of ");
-    say_port(s, p);
-    say(b" begin at byte ");
-    say_number(offset as u64);
-    say(b", and not at ");
-    say_number(running);
+fn say_start(rt: &impl Print, s: &[u8], p: PortNo, offset: u32, running: u64) -> io::Result<()> {
+    say(rt, b": those of ")?;
+    say_port(rt, s, p)?;
+    say(rt, b" begin at byte ")?;
+    say_number(rt, offset as u64)?;
+    say(rt, b", and not at ")?;
+    say_number(rt, running)
 }
 
-fn say_end(running: u64, length: usize) {
-    say(b": they end at byte ");
-    say_number(running);
-    say(b", and the patch has ");
-    say_bytes(length);
+fn say_end(rt: &impl Print, running: u64, length: usize) -> io::Result<()> {
+    say(rt, b": they end at byte ")?;
+    say_number(rt, running)?;
+    say(rt, b", and the patch has ")?;
+    say_bytes(rt, length)
 }
 
 // Number 32, at the first row whose vectors start elsewhere than at the running offset, or at their end.
-fn say_misplaced_vectors(s: &[u8], patch: &[u8]) {
+fn say_misplaced_vectors(rt: &impl Print, s: &[u8], patch: &[u8]) -> io::Result<()> {
     let count = ports_in(patch);
     let mut offset: u64 = row_at(count);
     let mut i: u32 = 0;
     while i < count {
         let p = PortNo((port_in(patch, i) % 256) as u8);
         if offset_at(patch, i) as u64 != offset {
-            say_start(s, p, offset_at(patch, i), offset);
-            return;
+            return say_start(rt, s, p, offset_at(patch, i), offset);
         }
         let f = port_at(s, p).fpb;
         offset += all_bytes(f);
         i += 1;
     }
-    say_end(offset, patch.len());
+    say_end(rt, offset, patch.len())
 }
 
 // The particulars of number 30, 31 or 32.
-pub fn say_of_patch(s: &[u8], patch: &[u8], number: u8) {
+pub fn say_of_patch(rt: &impl Print, s: &[u8], patch: &[u8], number: u8) -> io::Result<()> {
     match number {
-        30 => say_misfit(patch),
-        31 => say_misplaced_port(patch, (u16_at(s, 2) % 256) as u8),
-        _ => say_misplaced_vectors(s, patch),
+        30 => say_misfit(rt, patch),
+        31 => say_misplaced_port(rt, patch, (u16_at(s, 2) % 256) as u8),
+        _ => say_misplaced_vectors(rt, s, patch),
     }
 }

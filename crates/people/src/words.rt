@@ -1,54 +1,53 @@
 // Words and numbers on standard output.
 use ids::{Rid, Target};
-use libc::STDOUT_FILENO;
+use std::io;
 
 // Words as they are.
-pub fn say(words: &[u8]) {
-    io::write_all(STDOUT_FILENO, words);
+pub fn say(rt: &impl Print, words: &[u8]) -> io::Result<()> {
+    rt.write_all(words)
 }
 
 // A decimal number.
-pub fn say_number(n: u64) {
-    io::print_decimal(STDOUT_FILENO, n);
+pub fn say_number(rt: &impl Print, n: u64) -> io::Result<()> {
+    rt.print(n)
 }
 
 // A hexadecimal number of at least so many digits.
-pub fn say_hex(n: u64, width: usize) {
-    io::print_hex(STDOUT_FILENO, n, width);
+pub fn say_hex(rt: &impl Print, n: u64, width: usize) -> io::Result<()> {
+    print!(rt; "{n:0width$x}")
 }
 
 // `1 byte`, `40 bytes`.
-pub fn say_bytes(n: usize) {
-    say_number(n as u64);
+pub fn say_bytes(rt: &impl Print, n: usize) -> io::Result<()> {
+    say_number(rt, n as u64)?;
     if n == 1 {
-        say(b" byte");
-        return;
+        return say(rt, b" byte");
     }
-    say(b" bytes");
+    say(rt, b" bytes")
 }
 
 // An ID as bus, device and Function: `02:01.0`.
-pub fn say_id(rid: Rid) {
-    say_hex(rid.bus() as u64, 2);
-    say(b":");
-    say_hex(rid.device() as u64, 2);
-    say(b".");
-    say_number(rid.function() as u64);
+pub fn say_id(rt: &impl Print, rid: Rid) -> io::Result<()> {
+    say_hex(rt, rid.bus() as u64, 2)?;
+    say(rt, b":")?;
+    say_hex(rt, rid.device() as u64, 2)?;
+    say(rt, b".")?;
+    say_number(rt, rid.function() as u64)
 }
 
 // `ID 03:00.0 (0300)`, `address 00000000e0500000`.
-pub fn say_target(t: Target) {
+pub fn say_target(rt: &impl Print, t: Target) -> io::Result<()> {
     match t {
         Target::Id(rid) => {
-            say(b"ID ");
-            say_id(rid);
-            say(b" (");
-            say_hex(rid.0 as u64, 4);
-            say(b")");
+            say(rt, b"ID ")?;
+            say_id(rt, rid)?;
+            say(rt, b" (")?;
+            say_hex(rt, rid.0 as u64, 4)?;
+            say(rt, b")")
         }
         Target::Addr(a) => {
-            say(b"address ");
-            say_hex(a, 16);
+            say(rt, b"address ")?;
+            say_hex(rt, a, 16)
         }
     }
 }

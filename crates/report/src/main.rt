@@ -2,15 +2,15 @@
 // refusal.
 #![tactic(auto)]
 
-use libc::STDIN_FILENO;
+use std::io;
 
-fn print_lines(picture: &[u8]) {
-    reports::report_lines(picture).print();
+fn print_lines(rt: &impl Print, picture: &[u8]) -> io::Result<()> {
+    reports::report_lines(picture).print(rt)
 }
 
 // One byte more than a picture may have, so that a longer input shows.
-fn main() {
+fn main(rt: HostRuntime) -> io::Result<()> {
     let mut buffer = [0u8; 65537];
-    let n = io::read_full(STDIN_FILENO, &mut buffer);
-    print_lines(&buffer[..n]);
+    let n = inputs::read_full(&mut rt.stdin(), &mut buffer)?;
+    print_lines(&rt, &buffer[..n])
 }

@@ -1,13 +1,13 @@
 // What the programs print of the library's answers.
 #![tactic(auto)]
 
-mod holders;
+mod held;
 
 ghost use Rattle.std.specs.Prelude.{◌≡◌, eqb};
 ghost use Rattle.texts.specs.Texts.{text_of};
 ghost use Rattle.reports.specs.Reports.{report_of, trial_of, walk_of, ended};
 
-pub use holders::{claim_text, print_holders};
+pub use held::{claim_text, print_holders};
 use judge::{Outcome, WalkAnswer, check, check_finding, refusal_finding, trial_check};
 use texts::Text;
 

@@ -3,7 +3,8 @@
 #![tactic(auto)]
 
 use arguments::Number;
-use libc::{STDERR_FILENO, STDIN_FILENO};
+use std::env::Env;
+use std::io;
 
 // The packet kind that a word names: 0 ID, 1 address, 2 configuration request.
 fn kind_of(word: &[u8]) -> Number {
@@ -31,9 +32,9 @@ fn start_of(word: &[u8]) -> Number {
 }
 
 // The number that argument i stands for: the packet kind, the start and the target, in this order.
-fn argument(i: usize) -> Number {
+fn argument(rt: &impl Env, i: usize) -> Number {
     let mut word = [0u8; 32];
-    let n = os::arg(i, &mut word);
+    let n = inputs::word(rt, i, &mut word);
     if i == 1 {
         return kind_of(&word[..n]);
     }
@@ -44,37 +45,32 @@ fn argument(i: usize) -> Number {
 }
 
 // What is said to arguments that are not as they must be.
-fn print_usage() {
-    io::write_all(
-        STDERR_FILENO,
-        b"usage: route id|addr|config START TARGET <PICTURE; START is host or a device port's number, TARGET is hexadecimal\n",
-    );
+fn print_usage(rt: &impl Eprint) -> io::Result<()> {
+    eprintln!(rt;
+        "usage: route id|addr|config START TARGET <PICTURE; START is host or a device port's number, TARGET is hexadecimal"
+    )
 }
 
-fn main() {
-    if os::arg_count() != 4 {
-        print_usage();
-        return;
+fn main(rt: HostRuntime) -> io::Result<()> {
+    if !inputs::has_word(&rt, 3) | inputs::has_word(&rt, 4) {
+        return print_usage(&rt);
     }
-    let Number::Is(kind) = argument(1) else {
-        print_usage();
-        return;
+    let Number::Is(kind) = argument(&rt, 1) else {
+        return print_usage(&rt);
     };
-    let Number::Is(start) = argument(2) else {
-        print_usage();
-        return;
+    let Number::Is(start) = argument(&rt, 2) else {
+        return print_usage(&rt);
     };
-    let Number::Is(target) = argument(3) else {
-        print_usage();
-        return;
+    let Number::Is(target) = argument(&rt, 3) else {
+        return print_usage(&rt);
     };
     let mut buffer = [0u8; 65537];
-    let n = io::read_full(STDIN_FILENO, &mut buffer);
+    let n = inputs::read_full(&mut rt.stdin(), &mut buffer)?;
     let answer = judge::walk(
         &buffer[..n],
         arguments::clamped(kind),
         arguments::clamped(start),
         target,
     );
-    reports::walk_lines(arguments::clamped(kind), answer).print();
+    reports::walk_lines(arguments::clamped(kind), answer).print(&rt)
 }

@@ -13,6 +13,7 @@ ghost use Rattle.texts.specs.Lines.{spaced};
 pub use holds::holder_text;
 use ids::PortNo;
 pub use report::{refused_text, report_text};
+use std::io::Error;
 pub use walks::walk_text;
 
 // At most 192 bytes; what does not fit is left out.
@@ -100,8 +101,8 @@ impl Text {
     }
 
     // Writes the text to standard output.
-    pub fn print(self) {
+    pub fn print(self, rt: &impl Print) -> Result<(), Error> {
         let bytes = self.bytes;
-        io::write_all(libc::STDOUT_FILENO, lent::part(&bytes, 0, self.length));
+        rt.write_all(lent::part(&bytes, 0, self.length))
     }
 }

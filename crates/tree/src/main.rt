@@ -1,11 +1,11 @@
 // Reads a picture from standard input and draws its tree.
 #![tactic(auto)]
 
-use libc::STDIN_FILENO;
+use std::io;
 
 // One byte more than a picture may have, so that a longer input shows.
-fn main() {
+fn main(rt: HostRuntime) -> io::Result<()> {
     let mut buffer = [0u8; 65537];
-    let n = io::read_full(STDIN_FILENO, &mut buffer);
-    people::print_tree(&buffer[..n]);
+    let n = inputs::read_full(&mut rt.stdin(), &mut buffer)?;
+    people::print_tree(&rt, &buffer[..n])
 }

@@ -2,33 +2,29 @@
 // prints it.
 #![tactic(auto)]
 
-use libc::{PATH_MAX, STDERR_FILENO, STDIN_FILENO};
+use std::io;
+use std::io::Read;
 
-fn print_lines<'a>(picture: &'a [u8], patch: &'a [u8]) {
-    reports::trial_lines(picture, patch).print();
+fn print_lines<'a>(rt: &impl Print, picture: &'a [u8], patch: &'a [u8]) -> io::Result<()> {
+    reports::trial_lines(picture, patch).print(rt)
 }
 
 // What the judge says of the picture and the file. No patch of more than 65,480 bytes is accepted; of a file of more than twice
 // as many the first 131,073 are judged.
-fn try_patch(file: i32) {
+fn try_patch(rt: HostRuntime, file: &mut impl Read) -> io::Result<()> {
     let mut patch = [0u8; 131073];
-    let n = io::read_full(file, &mut patch);
+    let n = inputs::read_full(file, &mut patch)?;
     let mut picture = [0u8; 65537];
-    let m = io::read_full(STDIN_FILENO, &mut picture);
-    print_lines(&picture[..m], &patch[..n]);
+    let m = inputs::read_full(&mut rt.stdin(), &mut picture)?;
+    print_lines(&rt, &picture[..m], &patch[..n])
 }
 
-fn main() {
-    if os::arg_count() != 2 {
-        io::write_all(STDERR_FILENO, b"usage: trial PATCH <PICTURE\n");
-        return;
+fn main(rt: HostRuntime) -> io::Result<()> {
+    if !inputs::has_word(&rt, 1) | inputs::has_word(&rt, 2) {
+        return eprintln!(rt; "usage: trial PATCH <PICTURE");
     }
-    let mut name = [0u8; PATH_MAX];
-    let length = os::arg(1, &mut name);
-    let file = os::open_read(&name[..length]);
-    if file < 0 {
-        os::fail(b"trial: the patch cannot be opened");
-        return;
+    match inputs::open(&rt, 1) {
+        Ok(mut file) => try_patch(rt, &mut file),
+        Err(error) => inputs::say_failed(&rt, "trial: the patch cannot be opened", error),
     }
-    try_patch(file);
 }

@@ -1,8 +1,5 @@
 use Rattle.std.proofs.Common.{length, ◌-◌}
 use Rattle.arguments.proofs.hexadecimal.Given as goal
 
-abbrev pub invariant-loop : goal.invariant-loop
-invariant-loop l = Unit {0}
-
-abbrev pub decreases-loop : goal.decreases-loop
-decreases-loop l = length l.word - l.i
+abbrev pub decreases-loop-i : goal.decreases-loop-i
+decreases-loop-i l = length l.word - l.i

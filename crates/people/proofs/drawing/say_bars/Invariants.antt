@@ -1,7 +1,4 @@
 use Rattle.people.proofs.drawing.say_bars.Given as goal
 
-abbrev pub invariant-loop : goal.invariant-loop
-invariant-loop l = Unit {0}
-
-abbrev pub decreases-loop : goal.decreases-loop
-decreases-loop l = l.steps
+abbrev pub decreases-loop-steps : goal.decreases-loop-steps
+decreases-loop-steps g l = l.steps

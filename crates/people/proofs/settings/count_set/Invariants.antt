@@ -1,8 +1,8 @@
 use Rattle.std.proofs.Common.{◌-◌, ◌≤◌}
 use Rattle.people.proofs.settings.count_set.Given as goal
 
-abbrev pub invariant-loop : goal.invariant-loop
-invariant-loop l = l.count ≤ l.i
+abbrev pub invariant-loop-i : goal.invariant-loop-i
+invariant-loop-i l = l.count ≤ l.i
 
-abbrev pub decreases-loop : goal.decreases-loop
-decreases-loop l = l.size - l.i
+abbrev pub decreases-loop-i : goal.decreases-loop-i
+decreases-loop-i l = l.size - l.i

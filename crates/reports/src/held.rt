@@ -7,6 +7,7 @@ ghost use Rattle.reports.specs.Reports.{claim_line};
 
 use chassis::Hold;
 use judge::{ClaimAnswer, claim, refusal_finding};
+use std::io;
 use texts::Text;
 
 // The line of a port that holds the target; no text of one that does not.
@@ -30,7 +31,13 @@ pub fn claim_text(answer: ClaimAnswer) -> Text
 }
 
 // Prints the line of each port that holds the target, in port order, with the byte `end` between two; true if there is one.
-fn print_lines(picture: &[u8], kind: u32, target: u64, end: u8) -> bool {
+fn print_lines(
+    rt: &impl Print,
+    picture: &[u8],
+    kind: u32,
+    target: u64,
+    end: u8,
+) -> io::Result<bool> {
     let count = lent::u16_at(picture, 2) as u32;
     let between = [end];
     let mut held = false;
@@ -39,25 +46,30 @@ fn print_lines(picture: &[u8], kind: u32, target: u64, end: u8) -> bool {
         let text = claim_text(claim(picture, port, kind, target));
         if 0 < text.length {
             if held {
-                Text::new().with(&between).print();
+                Text::new().with(&between).print(rt)?;
             }
-            text.print();
+            text.print(rt)?;
             held = true;
         }
         port += 1;
     }
-    held
+    Ok(held)
 }
 
 // Prints all that the program `claims` says of a target, with the byte `end` between two lines.
-pub fn print_holders(picture: &[u8], kind: u32, target: u64, end: u8) {
+pub fn print_holders(
+    rt: &impl Print,
+    picture: &[u8],
+    kind: u32,
+    target: u64,
+    end: u8,
+) -> io::Result<()> {
     let first = claim(picture, 0, kind, target);
     let ClaimAnswer::Claimed(_) = first else {
-        claim_text(first).with(b"\n").print();
-        return;
+        return claim_text(first).with(b"\n").print(rt);
     };
-    if !print_lines(picture, kind, target, end) {
-        Text::new().with(b"nobody").print();
+    if !print_lines(rt, picture, kind, target, end)? {
+        Text::new().with(b"nobody").print(rt)?;
     }
-    Text::new().with(b"\n").print();
+    Text::new().with(b"\n").print(rt)
 }

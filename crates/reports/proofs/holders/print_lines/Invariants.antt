@@ -1,8 +1,0 @@
-use Rattle.std.proofs.Common.{◌-◌}
-use Rattle.reports.proofs.holders.print_lines.Given as goal
-
-abbrev pub invariant-loop : goal.invariant-loop
-invariant-loop l = Unit {0}
-
-abbrev pub decreases-loop : goal.decreases-loop
-decreases-loop l = l.count - l.port
