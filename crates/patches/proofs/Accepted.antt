@@ -1,10 +1,10 @@
 -- What holds of a patch that is accepted: its ports rise and are the picture's, its rows lie in it, and the vectors of each row lie in
 -- it whole, where the row says.
 -- Assumes nothing.
-use Prim.Native.Nat.{ℕ, zero, suc, ◌+◌, ◌*◌, ◌<◌, ◌≤◌}
-use mathlib.Core.Bool.{Bool, false, not}
+use Prim.Native.Nat.{ℕ, zero, suc, ◌+◌, ◌<◌, ◌≤◌}
+use mathlib.Core.Bool.{false, not}
 use mathlib.Core.List.{List}
-use mathlib.Core.Path.{◌≡◌, refl, sym, ap, ◌∙◌}
+use mathlib.Core.Path.{◌≡◌, refl}
 use native.Mathlib.Decide.{dec_lt}
 use native.Mathlib.Nat.{le_refl, le_trans}
 use native.Mathlib.Omega.{arith}
@@ -22,10 +22,10 @@ use Rattle.picture.specs.declared.Reading.{Reading}
 use Rattle.picture.specs.declared.Reading.TheVariants.{Read, Refused}
 use Rattle.picture.specs.Header.{header_of}
 use Rattle.picture.specs.Layout.{all_bytes}
-use Rattle.picture.specs.Reading.{refused_if, reading}
+use Rattle.picture.specs.Reading.{reading}
 use Rattle.picture.proofs.Laws.{count_of_lem, count_small}
 use Rattle.picture.proofs.WhatReads.{Reads, reads, past_if}
-use Rattle.patches.specs.Patch.{ports_in, row_at, port_in, offset_at, running_in, header_misfits, not_rising, port_misplaced, ports_misplaced, offset_misplaced, vectors_misplaced}
+use Rattle.patches.specs.Patch.{ports_in, port_in, offset_at, running_in, header_misfits, not_rising, port_misplaced, ports_misplaced, offset_misplaced, vectors_misplaced}
 use Rattle.patches.specs.Reading.{patch_reading, reading_with}
 
 pub record Accepted (s patch : List ℕ) (h : Header) : Type 0 where

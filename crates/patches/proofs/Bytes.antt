@@ -6,7 +6,7 @@ use mathlib.Core.List.{List, ◌++◌}
 use mathlib.Core.Path.{◌≡◌, refl, sym, ap, ◌∙◌, subst}
 use native.Mathlib.Omega.{arith}
 use lib.Dec.{eqb}
-use lib.ListN.{length, get_or, take, drop, length-append, length-take, length-drop, get_or-append}
+use lib.ListN.{length, get_or, take, drop, length-append, length-drop, get_or-append}
 use lib.Seq.{length-take-le, get_or-take, get_or-drop, get_or-append-add, ext_get_or}
 use Rattle.lent.specs.Lent.{u16_at, u32_at}
 use Rattle.registers.specs.Record.{edition_of, record_bytes, record_at, record_in, in_edition2, bridge_at, fpb_at, port_at}

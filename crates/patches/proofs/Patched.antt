@@ -1,27 +1,22 @@
 -- The bytes of the picture with a patch's vectors put in: those of each row are the patch's, and all others the picture's.
 -- Assumes nothing.
-use Prim.Native.Nat.{ℕ, zero, suc, zero-le, ◌+◌, ◌-◌, ◌*◌, ◌<◌, ◌≤◌}
-use mathlib.Core.Bool.{Bool, true, false}
+use Prim.Native.Nat.{ℕ, zero, suc, ◌+◌, ◌<◌, ◌≤◌}
 use mathlib.Core.List.{List}
-use mathlib.Core.Path.{◌≡◌, refl, sym, ap, ◌∙◌}
+use mathlib.Core.Path.{◌≡◌, refl, ◌∙◌}
 use mathlib.Core.Logic.{◌⊎◌, inl, inr, ⊎_elim}
-use native.Mathlib.Decide.{dec_lt, dec_le}
-use native.Mathlib.Nat.{le_refl, le_trans}
+use native.Mathlib.Decide.{dec_lt}
+use native.Mathlib.Nat.{le_trans}
 use native.Mathlib.Omega.{arith}
-use lib.ListN.{length, get_or, take, drop, length-drop}
-use lib.Seq.{length-take-le, get_or-take, get_or-drop, ext_get_or}
-use Rattle.least.specs.declared.Found.{Found}
-use Rattle.least.specs.declared.Found.TheVariants.{At, Nothing}
-use Rattle.registers.specs.declared.Mechanism.{Mechanism}
-use Rattle.registers.specs.Record.{record_at, port_at}
-use Rattle.registers.specs.Vectors.{vector_bytes}
+use lib.ListN.{length, get_or, drop, length-drop}
+use lib.Seq.{length-take-le, get_or-take, get_or-drop}
+use Rattle.registers.specs.Record.{port_at}
 use Rattle.trees.specs.Trees.{count_of}
 use Rattle.picture.specs.declared.Header.{Header}
-use Rattle.picture.specs.Layout.{all_bytes, running_offset, offset_in, vector_of}
-use Rattle.picture.proofs.WhatReads.{Reads, offset_grows, starts_there, room, fits_in}
+use Rattle.picture.specs.Layout.{all_bytes, running_offset}
+use Rattle.picture.proofs.WhatReads.{offset_grows, starts_there, room}
 use Rattle.patches.specs.Patch.{ports_in, port_in, offset_at}
-use Rattle.patches.specs.Patched.{put_in, new_vectors, patched_to, patched}
-use Rattle.patches.proofs.Bytes.{put_length, put_before, put_inside, put_after, SameTo}
+use Rattle.patches.specs.Patched.{new_vectors, patched_to}
+use Rattle.patches.proofs.Bytes.{put_length, put_before, put_inside, put_after}
 use Rattle.patches.proofs.Accepted.{Accepted, rises, row_fits}
 
 module _ (s patch : List ℕ) (h : Header) (a : Accepted s patch h) where

@@ -1,9 +1,9 @@
 -- The picture with a patch's vectors put in reads as the picture does; its records are the picture's, and each vector of it is the part
 -- that is handed out.
 -- Assumes nothing.
-use Prim.Native.Nat.{ℕ, zero, suc, zero-le, ◌+◌, ◌*◌, ◌<◌, ◌≤◌}
-use mathlib.Core.Bool.{true, false}
-use mathlib.Core.List.{List, []}
+use Prim.Native.Nat.{ℕ, zero, suc, zero-le, ◌+◌, ◌<◌, ◌≤◌}
+use mathlib.Core.Bool.{false}
+use mathlib.Core.List.{List}
 use mathlib.Core.Logic.{inl}
 use mathlib.Core.Path.{◌≡◌, refl, sym, ap, subst, ◌∙◌}
 use native.Mathlib.Nat.{le_refl, le_trans}
@@ -12,7 +12,7 @@ use borrow.Author.Tests.{eqb-true, eqb-false}
 use lib.ListN.{length, get_or, take, drop}
 use Rattle.least.specs.declared.Found.{Found}
 use Rattle.least.specs.declared.Found.TheVariants.{At, Nothing}
-use Rattle.least.proofs.Laws.{NoneIn, Least, is_least}
+use Rattle.least.proofs.Laws.{Least, is_least}
 use Rattle.chassis.proofs.AlikeTrees.{AlikeTrees, sane_alike}
 use Rattle.chassis.proofs.Tree.{Sane}
 use Rattle.registers.specs.declared.Mechanism.{Mechanism}
@@ -38,7 +38,7 @@ use Rattle.patches.specs.Halves.{place_over, vector_over}
 use Rattle.patches.proofs.Bytes.{part_same, SameTo, u16_same, u32_same, port_same}
 use Rattle.patches.proofs.Accepted.{Accepted, accepted, row_fits}
 use Rattle.patches.proofs.Sought.{sought}
-use Rattle.patches.proofs.Patched.{at_of, Outside, at_is, length_to, kept_to, apart, new_to}
+use Rattle.patches.proofs.Patched.{at_of, at_is, length_to, kept_to, apart, new_to}
 
 module _ (s patch : List ℕ) (h : Header) (a : Accepted s patch h) where
   abbrev s' : List ℕ

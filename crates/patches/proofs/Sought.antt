@@ -1,17 +1,16 @@
 -- A port's row is found by halves in a patch that is accepted.
 -- Assumes nothing.
-use Prim.Native.Nat.{ℕ, zero, suc, zero-le, ◌+◌, ◌-◌, ◌*◌, ◌/◌, ◌^◌, ◌<◌, ◌≤◌}
+use Prim.Native.Nat.{ℕ, zero-le, ◌+◌, ◌-◌, ◌*◌, ◌<◌, ◌≤◌}
 use mathlib.Core.Bool.{Bool, true, false, cond, ◌&&◌}
 use mathlib.Core.List.{List, [], ◌∷◌}
-use mathlib.Core.Path.{◌≡◌, refl, sym, ap, ◌∙◌}
-use native.Mathlib.Decide.{dec_lt, ℕ_discrete}
+use mathlib.Core.Path.{◌≡◌, refl}
+use native.Mathlib.Decide.{dec_lt}
 use native.Mathlib.Omega.{arith}
-use borrow.Author.Tests.{eqb-true, eqb-false, ne_eqb, ltb-true, ltb-false}
+use borrow.Author.Tests.{eqb-false, ne_eqb, ltb-true, ltb-false}
 use lib.Dec.{eqb, ltb}
 use lib.ListN.{length}
-use Rattle.least.specs.declared.Found.{Found}
 use Rattle.least.specs.declared.Found.TheVariants.{At, Nothing}
-use Rattle.least.proofs.Laws.{impossible, NoneIn, at_is, none_is}
+use Rattle.least.proofs.Laws.{impossible, at_is, none_is}
 use Rattle.lent.specs.Lent.{u16_at, u32_at}
 use Rattle.registers.specs.declared.Mechanism.{Mechanism}
 use Rattle.picture.specs.declared.Header.{Header}

@@ -2,7 +2,7 @@
 -- Assumes nothing.
 use Prim.Native.Nat.{ℕ, ◌^◌, ◌≤◌, ◌<◌}
 use mathlib.Core.Path.{◌≡◌, refl, sym, ap, subst}
-use mathlib.Core.Bool.{Bool, true, false, ◌||◌, or-true, or_assoc}
+use mathlib.Core.Bool.{Bool, true, ◌||◌, or-true, or_assoc}
 use mathlib.Core.List.{List}
 use native.Mathlib.Nat.{le_trans, le_antisymm}
 use borrow.Author.Tests.{not-true, not-false}

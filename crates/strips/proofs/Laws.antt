@@ -2,9 +2,9 @@
 use Prim.Native.Nat.{ℕ, zero, suc, ◌+◌, ◌-◌, ◌*◌, ◌/◌, ◌%◌, ◌^◌, ◌≤◌, ◌<◌, min, max}
 use mathlib.Core.Bool.{Bool, true, false, not, ◌&&◌, ◌||◌, beq, or-false, or_assoc}
 use mathlib.Core.List.{List}
-use mathlib.Core.Path.{◌≡◌, refl, sym, ap, ap₂, ◌∙◌, subst}
+use mathlib.Core.Path.{◌≡◌, refl, sym, ap, ◌∙◌, subst}
 use native.Mathlib.Decide.{dec_le, dec_lt, ℕ_discrete}
-use native.Mathlib.Nat.{pow-succ', zero-add, mul_comm, add_comm, div-add-mod, div-eq_of_lt, lt_of_lt_of_le, mod-lt, mod-eq_of_lt}
+use native.Mathlib.Nat.{pow-succ', zero-add, mul_comm, add_comm, div-add-mod, div-eq_of_lt, lt_of_lt_of_le, mod-eq_of_lt}
 use native.Mathlib.Omega.{arith}
 use lib.Bits.{bit_and, bit_or, and_step, or_step, and_shr, or_shr}
 use lib.Dec.{eqb, leb, ltb}

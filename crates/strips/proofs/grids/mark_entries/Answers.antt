@@ -17,10 +17,9 @@ loop-e-smaller c = let a = is_at _ _ _ (sym c.in-At.is ∙ c.next_entry.ensures)
 
 pub loop-e-preserved : goal.loop-e-preserved
 loop-e-preserved c =
-    let a = is_at _ _ _ (sym c.in-At.is ∙ c.next_entry.ensures) in
-    (
+    let a = is_at _ _ _ (sym c.in-At.is ∙ c.next_entry.ensures) in (
       omega (arith, c.end_entry-end.ensures, a.below),
       c.mark_range.auto.strip ∙ c.loop-e.invariant.1,
       marks_also c.loop-e.invariant.2 (rw c.units_of.ensures at c.mark_range.ensures)
-      (λ u l. grid_more c.args.base c.args.v.now c.args.g _ _ u a),
+          (λ u l. grid_more c.args.base c.args.v.now c.args.g _ _ u a),
     )
