@@ -39,6 +39,6 @@ pub nothing_claimed : (a : ℕ) → memory_claims (memory_of 0xE010 0xE000) a �
 unfolding memory_claims
 nothing_claimed a = go (leb 0xE0100000 a) refl
   where
-    go : (reached : Bool) → leb 0xE0100000 a ≡ reached → (reached && leb a 0x_e00_fffff) ≡ false
-    go true e = lt-leb a 0x_e00_fffff (omega (arith, leb-true 0xE0100000 a e))
+    go : (reached : Bool) → leb 0xE0100000 a ≡ reached → (reached && leb a 0xE00FFFFF) ≡ false
+    go true e = lt-leb a 0xE00FFFFF (omega (arith, leb-true 0xE0100000 a e))
     go false e = refl

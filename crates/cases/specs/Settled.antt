@@ -97,9 +97,9 @@ c7 = is_entry 1 (entry_of (settings_of (fpb_of 0 0 1 1) High) 0x110000000)
 unfoldable pub c8 : Bool
 c8 =
     not (memory_claims (memory_of 0xE010 0xE000) 0xE0000000)
-    && not (memory_claims (memory_of 0xE010 0xE000) 0x_e00_fffff)
+    && not (memory_claims (memory_of 0xE010 0xE000) 0xE00FFFFF)
     && not (memory_claims (memory_of 0xE010 0xE000) 0xE0100000)
-    && not (memory_claims (memory_of 0xE010 0xE000) 0x_e01_fffff)
+    && not (memory_claims (memory_of 0xE010 0xE000) 0xE01FFFFF)
 
 -- "C9 Base and Limit 0: the first MiB."
 unfoldable pub c9 : Bool
