@@ -8,11 +8,11 @@
 built=target/fpb
 
 # How long it takes to prove all that a program needs, from nothing.
-build_time="about 5 minutes on two cores, more on a slow machine"
+build_time="about 40 minutes on two cores, more on a slow machine"
 
-# fingerprint: one word for the sources as they are now, whatever their dates
+# fingerprint: one word for the sources as they are now, whatever their dates and whatever rt has made of them
 fingerprint() {
-    find crates crates.txt -type f -print0 | LC_ALL=C sort -z | xargs -0 sha256sum | sha256sum
+    find crates crates.txt -regex 'crates/[^/]*/out' -prune -o -type f -print0 | LC_ALL=C sort -z | xargs -0 sha256sum | sha256sum
 }
 
 # is_built NAME FINGERPRINT: whether it is made from these sources
@@ -20,24 +20,18 @@ is_built() {
     [ -f "$built/$1" ] && has_loader "$built/x86-64" && [ -f "$built/$1.made-from" ] && [ "$(cat "$built/$1.made-from")" = "$2" ]
 }
 
-# needed_by CRATE: how many crates of this repository are proved for it, itself among them
+# needed_by CRATE: the crates of this repository that are proved for it, in the order in which rt proves them, itself the last
 needed_by() {
     awk -F: -v name="$1" '
-        !/^#/ { uses[$1] = $2 }
-        END {
-            wanted[name] = count = 1
-            for (todo = name; todo != ""; ) {
-                split(todo, first, " ")
-                todo = substr(todo, length(first[1]) + 2)
-                n = split(uses[first[1]], words, " ")
-                for (i = 1; i <= n; i++) if (words[i] in uses && !(words[i] in wanted)) {
-                    wanted[words[i]] = 1
-                    count++
-                    todo = todo words[i] " "
-                }
-            }
-            print count
-        }' crates.txt
+        !/^#/ && NF { split($1, words, " "); uses[words[1]] = $2 }
+        function visit(crate, words, n, i) {
+            if (crate in seen || !(crate in uses)) return
+            seen[crate] = 1
+            n = split(uses[crate], words, " ")
+            for (i = 1; i <= n; i++) visit(words[i])
+            print crate
+        }
+        END { visit(name) }' crates.txt
 }
 
 # ends_with PID GROUP FOLDER: ends the process group and removes the folder once the process is gone, however it went
@@ -79,52 +73,51 @@ attended() {
     return "$status"
 }
 
-# under_way PROVED: the crates that rt has begun with since this build began, but for those in the list
-under_way() {
-    local file name
-    for file in target/log/*.out; do
-        name=$(basename "$file" .out)
-        if ! [ "$file" -ot "$built/began" ] && [[ $1 != *" $name "* ]]; then printf ' %s' "$name"; fi
-    done
-}
-
 # tell WORDS: says how far a build is; ends the build where nobody listens any more
 tell() {
     echo "$self: $1" >&2 || kill -TERM 0
 }
 
-# progress COUNT: passes on what rt prints; says on standard error which crate is proved, n of COUNT, and every 10 seconds
-# without such news what is being proved
+# progress CRATE..: passes on what rt prints as it proves these, one after another; says on standard error which one is proved, n of
+# them, and every 10 seconds without such news what is being proved
 progress() {
-    local count=$1 n=0 proved=' ' line part='' name
+    local count=$# n=0 line part='' name='' under_way=''
+    local -A place=()
+    for name; do n=$((n + 1)) place[$name]=$n; done
+    n=0 name=''
     trap '' PIPE
     while :; do
         if IFS= read -r -t 10 line; then
             line=$part$line part=''
             printf '%s\n' "$line"
-            [[ $line =~ ^rt:\ ([a-z]+)\ proved\ \((unchanged)? ]] || continue
-            name=${BASH_REMATCH[1]} n=$((n + 1))
-            proved="$proved$name "
-            [ -n "${BASH_REMATCH[2]}" ] || tell "$n of $count proved: $name"
+            if [[ $line =~ ^rt:\ chose\ --jobs\ [0-9]+\ for\ ([a-z_0-9]+)$ || $line =~ ^(fn|impl|struct|enum)\ ([a-z_0-9]+):: ]]; then
+                under_way=${BASH_REMATCH[-1]}
+            elif [[ $line =~ ^crate\ ([a-z_0-9]+):\  ]]; then
+                name=${BASH_REMATCH[1]}
+            elif [[ $line == 'logic=proved '* && -n ${place[$name]-} ]]; then
+                n=${place[$name]} under_way=''
+                tell "$n of $count proved: $name"
+            fi
         elif [ $? -gt 128 ]; then
             part=$part$line
-            tell "$n of $count proved, being proved:$(under_way "$proved")"
+            tell "$n of $count proved${under_way:+, being proved: $under_way}"
         else
             return 0
         fi
     done
 }
 
-# proved CRATE: has rt prove it and what it rests on, with progress, and keeps what rt prints
-proved() {
-    : >"$built/began"
-    set -o pipefail
-    rt check "$1" 2>&1 | progress "$(needed_by "$1")" >"$built/log"
-}
-
-# archived CRATE: has rt make the archive of a proved library, and keeps what rt prints
-archived() {
-    rt staticlib "$1" >"$built/log" 2>&1
+# has_rt VERB CRATE: has rt run a program or make a library, which it proves first with what it rests on; with progress, and keeps
+# what rt prints. A program has standard input at its end and no arguments; how it ends says nothing, but that rt ran it does.
+has_rt() {
+    local needed status
+    mapfile -t needed < <(needed_by "$2")
+    (cd "crates/$2" && rt "$1" 2>&1) | progress "${needed[@]}" >"$built/log"
+    status=${PIPESTATUS[0]}
+    if [ "$1" = run ]; then
+        if grep -q "^rt: running out/$2;" "$built/log"; then status=0; elif [ "$status" -eq 0 ]; then status=1; fi
+    fi
+    return "$status"
 }
 
 # one_at_a_time: waits until no other build runs in this checkout, and keeps others from it until descriptor 9 is closed
@@ -165,21 +158,44 @@ rt_failed() {
     tail -n 5 "$built/log" >&2
 }
 
+# crate_of PROGRAM|ARCHIVE.a: the crate that it is made of; an archive is that of a static library, NAME_c where NAME is a library
+crate_of() {
+    local name=${1%.a}
+    if [ "$1" != "$name" ] && [ -d "crates/${name}_c" ]; then name=${name}_c; fi
+    printf '%s\n' "$name"
+}
+
 # make_one PROGRAM|ARCHIVE.a: has rt prove and compile it, and puts it where built things stand
 make_one() {
-    local crate=${1%.a} from=target/bin/$1
-    echo "$self: $1 is not built yet from these sources: proving it and what it rests on, $(needed_by "$crate") crates;" \
+    local crate verb=run from
+    crate=$(crate_of "$1")
+    from=crates/$crate/out/$crate
+    [ "$1" = "${1%.a}" ] || verb=lib from=crates/$crate/out/lib$crate.a
+    echo "$self: $1 is not built yet from these sources: proving it and what it rests on, $(needed_by "$crate" | wc -l) crates;" \
         "if none is proved yet, this takes $build_time" >&2
-    attended proved "$crate" || { rt_failed "$1" $?; return 1; }
-    if [ "$1" != "$crate" ]; then
-        echo "$self: making the archive of $crate, less than a minute" >&2
-        attended archived "$crate" || { rt_failed "$1" $?; return 1; }
-        from=target/staticlib/lib$1
-    fi
-    if ! put "$from" "$built/$1" || ! lay_loader "$built/x86-64"; then
-        echo "$self: $1 is proved, but cannot be put into $PWD/$built" >&2
+    attended has_rt "$verb" "$crate" || { rt_failed "$1" $?; return 1; }
+    lay_built "$from" "$1"
+}
+
+# lay_built FROM PROGRAM|ARCHIVE.a: puts what is proved and compiled where built things stand
+lay_built() {
+    if ! put "$1" "$built/$2" || ! lay_loader "$built/x86-64"; then
+        echo "$self: $2 is proved, but cannot be put into $PWD/$built" >&2
         return 1
     fi
+}
+
+# take_programs FINGERPRINT: after an \`rt ci' that passed over the sources of this fingerprint, takes the programs that it has left
+take_programs() {
+    local file program
+    mkdir -p "$built" || return 1
+    for file in crates/*/src/main.rt; do
+        program=${file#crates/} program=${program%%/*}
+        if [ -x "crates/$program/out/$program" ]; then
+            rm -f "$built/$program.made-from"
+            lay_built "crates/$program/out/$program" "$program" && printf '%s\n' "$1" >"$built/$program.made-from" || return 1
+        fi
+    done
 }
 
 # build PROGRAM|ARCHIVE.a: has it built from the sources as they are now; asks rt only where they have changed

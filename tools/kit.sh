@@ -1,19 +1,19 @@
 # shellcheck shell=bash
-# Sourced: finds the kit by rt on the PATH, and compiles, links and runs x86-64 programs with it on either kind of machine.
+# Sourced: finds the kit by rt on the PATH, and compiles, links and runs x86-64 programs with it.
 kit_home() {
     local rt
     rt=$(command -v rt) || { echo "rt, the command of the Rattle kit, is not on the PATH" >&2; return 1; }
     printf '%s\n' "${RATTLE_HOME:-$(dirname "$(dirname "$(readlink -f "$rt")")")}"
 }
 
-# kit_tools: the folder of the kit's compiler, C library and, where the machine is not x86-64, emulator.
+# kit_tools: the folder of the kit's compiler, C library and, where a kit has one, emulator.
 kit_tools() {
     local home
     home=$(kit_home) || return 1
-    printf '%s\n' "$home/on/$(uname -m)/toolchain"
+    printf '%s\n' "$home/toolchain"
 }
 
-# run_x86 FILE ARGS..: runs an x86-64 executable by the kit's loader, elsewhere under the kit's emulator.
+# run_x86 FILE ARGS..: runs an x86-64 executable by the kit's loader, under the kit's emulator where it has one.
 run_x86() {
     local tools emulator
     tools=$(kit_tools) || return 1
