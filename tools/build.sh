@@ -111,7 +111,7 @@ progress() {
 # what rt prints. A program has standard input at its end and no arguments; how it ends says nothing, but that rt ran it does.
 has_rt() {
     local needed status
-    mapfile -t needed < <(needed_by "$2")
+    read -ra needed <<<"$(needed_by "$2" | tr '\n' ' ')"
     (cd "crates/$2" && rt "$1" 2>&1) | progress "${needed[@]}" >"$built/log"
     status=${PIPESTATUS[0]}
     if [ "$1" = run ]; then
