@@ -9,43 +9,19 @@ case "$*" in
     *) echo "usage: bench.sh [--no-counts]" >&2; exit 2 ;;
 esac
 cd "$(dirname "$(readlink -f "$0")")/.."
-. tools/kit.sh
-machine=$(uname -m)
-home=$(kit_home)
+self=bench.sh
+. tools/build.sh
 work=$PWD/target/bench
 rm -rf "$work"
 mkdir -p "$work"
 
-# native NAME: a proved library as an object or archive that host programs link. On x86-64 it is the kit's own archive. The kit
-# compiles for nothing else, so elsewhere a copy of its toolchain folder has a clang that keeps the module that it is handed,
-# and the kit's clang compiles that module for this machine at the same level.
-native() {
-    if [ "$machine" = x86_64 ]; then
-        rt staticlib "$1" >"$work/$1.log" || { cat "$work/$1.log"; exit 1; }
-        cp "target/staticlib/lib$1.a" "$work/$1.a"
-        return
-    fi
-    local copy=$work/kit own clang=$home/on/$machine/toolchain/bin/clang file
-    own=$copy/on/$machine
-    if [ ! -d "$copy" ]; then
-        mkdir -p "$own/toolchain/bin"
-        for file in "$home"/*; do [ "${file##*/}" = on ] || ln -s "$file" "$copy/"; done
-        for file in "$home/on/$machine"/*; do [ "${file##*/}" = toolchain ] || ln -s "$file" "$own/"; done
-        for file in "$home/on/$machine"/toolchain/*; do [ "${file##*/}" = bin ] || ln -s "$file" "$own/toolchain/"; done
-        for file in "$home/on/$machine"/toolchain/bin/*; do [ "${file##*/}" = clang ] || ln -s "$file" "$own/toolchain/bin/"; done
-        printf '#!/bin/sh\ncp module.bc "%s/module.bc"\nexec "%s" "$@"\n' "$work" "$clang" >"$own/toolchain/bin/clang"
-        chmod +x "$own/toolchain/bin/clang"
-    fi
-    rm -f "$work/module.bc"
-    RATTLE_HOME=$copy rt staticlib "$1" >"$work/$1.log" || { cat "$work/$1.log"; exit 1; }
-    "$clang" "--target=$machine-unknown-linux-gnu" -O3 -fPIC -ffunction-sections -fdata-sections -Wno-override-module \
-        -c -x ir "$work/module.bc" -o "$work/$1.o" 2>/dev/null
-}
-
-native fiswalend
-native timing
+# the proved libraries as archives that host programs link
+for archive in fiswalend.a timing.a; do
+    build "$archive" || exit 1
+    cp "$built/$archive" "$work/"
+done
 (cd second && cargo build --release --offline --quiet)
-(cd bench && RUSTFLAGS=$(printf -- '-C link-arg=%s ' "$work"/fiswalend.[ao] "$work"/timing.[ao]) cargo build --release --offline --quiet)
+(cd bench && RUSTFLAGS=$(printf -- '-C link-arg=%s ' "$work"/fiswalend.a "$work"/timing.a) cargo build --release --offline --quiet)
 bench=$PWD/bench/target/release/bench
 pictures=()
 for kind in flat nested chain high low rid wide; do
@@ -64,7 +40,7 @@ echo
 echo
 "$bench" growth
 echo
-cc -O2 -Iinclude bench/history.c "$work"/fiswalend.[ao] -o "$work/history"
+cc -O2 -Iinclude bench/history.c "$work"/fiswalend.a -o "$work/history"
 "$work/history" "$work/flat.picture"
 [ "${1:-}" != --no-counts ] || exit 0
 command -v valgrind >/dev/null || { echo "valgrind is missing: no counts"; exit 0; }
