@@ -16,14 +16,14 @@ import sys
 sys.dont_write_bytecode = True
 from definitions import CRATES, ROOT, cited, closure, contracts, offered, overlooked, problem, problems, read_specs, specs
 
-# The public calls by crate: those that must have a contract; the crates whose calls bear the mark #[no_mangle]; and those that
+# The public calls by crate: those that must have a contract; the crates whose calls bear the mark #[unsafe(no_mangle)]; and those that
 # count once they have a contract, where None is every `pub` function of the crate.
 CALLS = {
     "picture": ["read"],
     "patches": ["read"],
     "judge": ["claim", "convert", "walk", "check", "trial_check", "trial_walk", "trial_part"],
 }
-EXPORTING = ["fiswalend"]
+EXPORTING = ["fiswalend", "fiswalend_c"]
 LATER = {"texts": ["report_text", "refused_text", "walk_text"], "reports": None}
 
 # What is promised beside the judge's own answers, by the crates that say it; the rest is the judge.
@@ -58,7 +58,7 @@ def believed():
 
 def by_file(definitions):
     """The definitions of each file, from the end of crates.txt to its beginning, types last."""
-    order = [line.split(":")[0] for line in (ROOT / "crates.txt").read_text().splitlines()]
+    order = [line.split(":")[0].split(" ")[0] for line in (ROOT / "crates.txt").read_text().splitlines()]
     place = {crate: -number for number, crate in enumerate(order)}
     key = lambda d: (d.is_type, place.get(d.module.crate, 0), d.module.label)
     chosen = sorted(definitions, key=lambda d: (*key(d), d.module.bare.find(d.antt or d.rattle)))

@@ -11,11 +11,11 @@ from pathlib import Path
 ROOT = Path(__file__).resolve().parent.parent
 CRATES = ROOT / "crates"
 
-USE = re.compile(r"(?m)^((?:unfoldable |pub |ghost )*)use ([^\s{;]+?)(?:\.\{([^}]*)\}|(\.\*)| as ([^\s;]+))?;?$")
+USE = re.compile(r"(?m)^((?:unfoldable |pub |ghost )*)use ([^\s{;]+?)(?:(?:\.|::)\{([^}]*)\}|(\.\*)| as ([^\s;]+))?;?$")
 DECLARED = re.compile(r"(?m)^((?:(?:unfoldable|abbrev|axiom|pub) )*)(?:(record|data) (\S+)|(\S+)(?: \{[^}]*\})? :(?=\s|$))")
 CONSTRUCTOR = re.compile(r"(?m)^  (\S[^:\n]*?) :(?=\s|$)")
 TYPE = re.compile(r"(?m)^(pub )?(?:struct|enum) (\w+)(?:[^{;]*;|[^{;]*\{[^{}]*(?:\{[^{}]*\}[^{}]*)*\})")
-CLAUSE = re.compile(r"\s*(?:requires|ensures|ghost)\s*\{")
+CLAUSE = re.compile(r"\s*(?:requires|ensures|ghost)\*?(?:\s+\w+)?:?\s*\{")
 FUNCTION = re.compile(rf'(?m)^ *((?:#\[[^\]]*\]\s*)*)(pub )?(?:extern "C" )?fn (\w+)([^{{]*?)(?={CLAUSE.pattern}|\s*\{{)')
 WORD = re.compile(r'[^\s(){};,@"«»]+')
 
@@ -53,6 +53,9 @@ class Module:
     def bring(self, marks, path, items, glob, alias):
         for item in filter(None, map(str.strip, (items or "").split(","))):
             name, _, local = item.partition(" as ")
+            if self.layer == "src" and "ghost" not in marks:
+                self.modules[local or name] = f"{path}::{name}"
+                continue
             put(self.imports, local or name, f"{path}.{name}")
             self.passed_on += [local or name] if "pub" in marks else []
         if glob:
@@ -63,7 +66,7 @@ class Module:
 
 def put(names, name, thing):
     """An operator goes by its name, and by what stands between its arguments."""
-    names.update({word: thing for word in {name, *name.split("_")} if word})
+    names.update({word: thing for word in {name, *name.split("◌")} if word})
 
 
 @functools.cache
@@ -83,7 +86,7 @@ def read_specs(path):
 
 def known(module, text, name):
     """What of a text belongs to the declaration of a name: indented lines, and clauses, which begin with the name."""
-    clause = r"\S" if "_" in (name or "") else rf"{re.escape(str(name))}(?!\S)|unfolding |infix|(?:pub )?mod |[)}}]"
+    clause = r"\S" if "◌" in (name or "") else rf"{re.escape(str(name))}(?!\S)|unfolding |infix|(?:pub )?mod |[)}}]"
     odd = re.search(rf"(?m)(?<=\n)(?!{clause})\S.*", "\n" + text)
     if odd and module.layer == "specs":
         problem(f"{module.label} has a line of a form that is not known here: {odd.group(0)}")
@@ -117,12 +120,12 @@ contracts = [function for module in sources for function in module.functions]
 
 def imported(module, path):
     """What the name at the end of a path means; None for a name of the kit."""
-    found = re.match(r"(?:package\.)?Rattle·(\w+?)(?:·specs|·proofs)?\.(specs|proofs)\.(?:(\S+)\.)?([^\s.]+)$", path)
+    found = re.match(r"Rattle\.(\w+)\.(specs|proofs)\.(?:(\S+)\.)?([^\s.]+)$", path)
     if not found or not (CRATES / found.group(1)).is_dir():
         return None
     crate, layer, below, name = found.groups()
     if below and below.startswith("declared."):
-        meant = declared_type(crate, below.removesuffix(".the-variants").split(".")[1:], name)
+        meant = declared_type(crate, below.removesuffix(".TheVariants").split(".")[1:], name)
     else:
         file = CRATES / crate / layer / ((below or "Lib").replace(".", "/") + ".antt")
         meant = file.is_file() and meaning(read_specs(file), name)
