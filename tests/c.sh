@@ -1,7 +1,7 @@
 #!/usr/bin/env bash
 # The archive from C: installs it, compiles the header, the test programs and the examples, links them with it and runs them. The
-# kit's own clang, linker and loader do this on either kind of machine, on Arm under the kit's emulator. A compiler of the host
-# compiles them too, and on x86-64 links and runs them. Last line: N passed, M failed.
+# kit's own clang, linker and loader do this. A compiler of the host compiles them too, and on x86-64 links and runs them. Last
+# line: N passed, M failed.
 set -u
 cd "$(dirname "$(readlink -f "$0")")/.." || exit 2
 . tools/kit.sh

@@ -1,8 +1,8 @@
 #!/usr/bin/env bash
 # histories.sh [SEED [STORIES]]: the proved calls of a settings history against the second program, step by step: numbers, the room
 # after each run, the bytes of each version, and what the check and a walk say of them. tests/c/histories.c makes the calls: it is
-# compiled, linked with the archive and run by the kit, on Arm under the kit's emulator. Both get the hand-written stories, then
-# STORIES random ones of seed SEED. A longer run with another seed: tests/histories.sh 7 20000
+# compiled, linked with the archive and run by the kit. Both get the hand-written stories, then STORIES random ones of seed SEED.
+# A longer run with another seed: tests/histories.sh 7 20000
 # The first difference is shown with its step and both lines, and its story is kept in target/histories.
 # Last line: N passed, M failed, counting steps and what is tried of the driver itself.
 set -u
