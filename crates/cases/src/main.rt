@@ -47,9 +47,9 @@ fn base_above_limit() {
     let b = memory_of(0xE010, 0xE000);
     print::case(8);
     print::claimed(claims::memory_claims(b, 0xE0000000));
-    print::claimed(claims::memory_claims(b, 0xE00FFFFF));
+    print::claimed(claims::memory_claims(b, 0x_e00_fffff));
     print::claimed(claims::memory_claims(b, 0xE0100000));
-    print::claimed(claims::memory_claims(b, 0xE01FFFFF));
+    print::claimed(claims::memory_claims(b, 0x_e01_fffff));
     print::end();
 }
 
