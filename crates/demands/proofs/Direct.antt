@@ -1,6 +1,6 @@
 -- In a picture of edition 1 nothing is redirected. Assumes nothing.
 use Prim.Native.Nat.{ℕ}
-use mathlib.Core.Bool.{Bool, false, ◌&&◌}
+use mathlib.Core.Bool.{Bool, false}
 use mathlib.Core.List.{List}
 use mathlib.Core.Path.{◌≡◌, refl, ap}
 use Rattle.ids.specs.declared.Target.TheVariants.{Id, Addr}

@@ -1,15 +1,14 @@
 -- The demands of a picture and a patch. Assumes nothing.
 use Prim.Native.Nat.{ℕ, ◌<◌}
 use mathlib.Core.List.{List}
-use mathlib.Core.Path.{◌≡◌, refl, sym, ap, subst, ◌∙◌}
+use mathlib.Core.Path.{◌≡◌, refl, ap, ◌∙◌}
 use borrow.Author.Tests.{lt-ltb}
 use Rattle.least.proofs.Laws.{impossible}
 use Rattle.chassis.specs.declared.End.{End}
 use Rattle.chassis.specs.declared.Verdict.{Verdict}
 use Rattle.chassis.specs.Check.{verdict_of}
-use Rattle.chassis.specs.OneEnd.{InRange, OneEnd}
+use Rattle.chassis.specs.OneEnd.{OneEnd}
 use Rattle.ids.specs.declared.PortNo.{PortNo}
-use Rattle.ids.specs.declared.Target.{Target}
 use Rattle.chassis.specs.Walk.{Walk, starts_at}
 use Rattle.registers.specs.declared.Mechanism.{Mechanism}
 use Rattle.registers.specs.Record.{port_at}
@@ -18,7 +17,6 @@ use Rattle.picture.specs.declared.Header.{Header}
 use Rattle.picture.specs.declared.Reading.{Reading}
 use Rattle.picture.specs.declared.Reading.TheVariants.{Read, Refused as NotRead}
 use Rattle.picture.specs.Layout.{vector_of}
-use Rattle.picture.specs.Reading.{reading}
 use Rattle.patches.specs.Parts.{place_of, part_at}
 use Rattle.patches.specs.Patched.{patched}
 use Rattle.patches.specs.Reading.{reading_with}
@@ -29,12 +27,12 @@ use Rattle.judge.specs.declared.CheckAnswer.TheVariants.{Judged}
 use Rattle.judge.specs.declared.Outcome.TheVariants.{Ended}
 use Rattle.judge.specs.declared.PartAnswer.TheVariants.{Lies}
 use Rattle.judge.specs.declared.WalkAnswer.{WalkAnswer}
-use Rattle.judge.specs.Checking.{check_answer, check_finding}
+use Rattle.judge.specs.Checking.{check_finding}
 use Rattle.judge.specs.Refusals.{refusal_finding}
-use Rattle.judge.specs.Trying.{tried_check, trial_check, TriedGives, TrialGives, tried_part, trial_part}
+use Rattle.judge.specs.Trying.{tried_check, trial_check, TriedGives, tried_part, trial_part}
 use Rattle.judge.specs.Walking.{packet_of, refused_walk}
 use Rattle.judge.proofs.Trials.{count_tried, patched_read, trial_only}
-use Rattle.demands.specs.Demands.{Names, WalksIn, Trial1, Trial2, Trial3, TrialOverlap}
+use Rattle.demands.specs.Demands.{Names, Trial1, Trial2, Trial3, TrialOverlap}
 use Rattle.demands.proofs.Demands.{walks_in, tried, demand_2, demand_3, fails_exactly, judged, judged_only}
 use Rattle.demands.proofs.Numbers.{tried_never_zero, tried_in_table, trial_check_numbered, trial_walk_numbered, trial_part_numbered}
 

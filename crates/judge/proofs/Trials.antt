@@ -26,11 +26,11 @@ use Rattle.patches.proofs.PatchedReads.{trees_patched, patched_reads}
 use Rattle.claims.specs.Claims.{chassis_of}
 use Rattle.claims.specs.Over.{chassis_over}
 use Rattle.claims.proofs.Over.{alike_patched, redirect_patched}
-use Rattle.judge.specs.declared.CheckAnswer.TheVariants.{Refused, Judged}
+use Rattle.judge.specs.declared.CheckAnswer.TheVariants.{Judged}
 use Rattle.judge.specs.declared.WalkAnswer.{WalkAnswer}
-use Rattle.judge.specs.Checking.{check_of, check_answer}
+use Rattle.judge.specs.Checking.{check_of}
 use Rattle.judge.specs.Trying.{tried_check, trial_check, TriedGives, TrialGives}
-use Rattle.judge.specs.Walking.{packet_of, is_start, asked_wrongly, refused_walk, AskedGives, WalkGives}
+use Rattle.judge.specs.Walking.{packet_of, is_start, asked_wrongly, refused_walk, AskedGives}
 use Rattle.judge.proofs.Walks.{walk_only, gives_read, started, within_start}
 
 module _ (s patch : List ℕ) (h : Header) (read : reading_with s patch ≡ Read h) where

@@ -1,5 +1,5 @@
 -- What a walk that is not refused has, and that the call's answer is the only one it may give. Assumes nothing.
-use Prim.Native.Nat.{ℕ, ◌<◌, ◌≤◌}
+use Prim.Native.Nat.{ℕ, ◌<◌}
 use mathlib.Core.Bool.{Bool, true, false, not, ◌||◌}
 use mathlib.Core.List.{List, []}
 use mathlib.Core.Logic.{◌⊎◌, inl, inr}
@@ -10,9 +10,8 @@ use lib.Dec.{eqb, ltb}
 use Rattle.least.proofs.Laws.{impossible}
 use Rattle.chassis.specs.declared.Packet.{Packet}
 use Rattle.chassis.specs.declared.Whereabouts.{Whereabouts}
-use Rattle.chassis.specs.declared.Whereabouts.TheVariants.{Root}
 use Rattle.chassis.specs.Chassis.{Chassis}
-use Rattle.chassis.specs.Tree.{Tree, root, is_device_port, has_child_below, upstream}
+use Rattle.chassis.specs.Tree.{Tree, root, is_device_port, has_child_below}
 use Rattle.chassis.specs.Walk.{come_to, is_redirected, starts_at}
 use Rattle.chassis.proofs.Bools.{or_false_parts, and_true_parts}
 use Rattle.chassis.proofs.Starts.{come_to_root, come_to_within}

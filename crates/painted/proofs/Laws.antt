@@ -6,7 +6,7 @@ use mathlib.Core.Path.{◌≡◌, refl, sym, ap, ap₂, ◌∙◌, subst}
 use native.Mathlib.Decide.{dec_le}
 use native.Mathlib.Nat.{lt_of_lt_of_le, le-div_iff_mul-le, mul-div_cancel, div-lt_iff_lt-mul, div-eq_of_lt, suc-mul, zero-add, add-mul-div_right}
 use native.Mathlib.Omega.{arith}
-use lib.Dec.{eqb, leb, ltb}
+use lib.Dec.{eqb}
 use lib.Pow.{pow_pos, pow_mono, shr_lt, shr-shr}
 use borrow.Author.Tests.{lt-ltb, lt-leb}
 use Rattle.ids.specs.Ids.{bus_of}
@@ -20,7 +20,7 @@ use Rattle.registers.specs.declared.Mechanism.{Mechanism}
 use Rattle.registers.specs.declared.Mechanism.TheVariants.{Rid as OfRid, Low as OfLow, High as OfHigh}
 use Rattle.registers.specs.Record.{port_at}
 use Rattle.registers.specs.Vectors.{field, enabled_in, size_code, settings_of}
-use Rattle.claims.specs.Decoders.{between, base_of, limit_of, upper_of, bus_claims, vector_claims, memory_claims, prefetchable_claims, low_claims, high_claims, memory_space_enabled, id_decoders, address_decoders}
+use Rattle.claims.specs.Decoders.{between, base_of, upper_of, bus_claims, vector_claims, memory_claims, prefetchable_claims, low_claims, high_claims, memory_space_enabled, id_decoders, address_decoders}
 use Rattle.claims.specs.Beside.{beside_video, chassis_beside}
 use Rattle.claims.proofs.Joined.{beside_id, beside_address}
 use Rattle.claims.proofs.Laws.{same_leb}
