@@ -87,6 +87,7 @@ def main(root):
                 words |= {n.strip().split(" as ")[0] for n in (m.group(3) or "").split(",") if "-" not in n}
     taken = {camel(n) for p, t in texts.items() if own_file(p) for n, _ in declarations(p, t) if "-" not in n}
     taken |= words
+    words -= {"only"}
     for p, t in texts.items():
         if own_file(p):
             for n, field in declarations(p, t):

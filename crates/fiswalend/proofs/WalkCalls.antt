@@ -108,10 +108,10 @@ leaves_only Gives one before m n x y = go (too_short before)
         let same = one v.0 w.0 v.1 w.1 in
         (v.2 ∙ ap (λ (a : WalkAnswer). outcome_number a.outcome) same ∙ sym w.2, v.3 ∙ ap (λ (a : WalkAnswer). walk_bytes a ++ drop 40 before) same ∙ sym w.3)
 
-pub walk_call-only : (s : List ℕ) (kind start target : ℕ) (before : List ℕ) (m n : ℕ) (x y : List ℕ)
+pub walk_call_only : (s : List ℕ) (kind start target : ℕ) (before : List ℕ) (m n : ℕ) (x y : List ℕ)
     → WalkCall s kind start target before m x → WalkCall s kind start target before n y → (m ≡ n) × (x ≡ y)
-walk_call-only s kind start target = leaves_only (WalkGives s kind start target) (walk_only s kind start target)
+walk_call_only s kind start target = leaves_only (WalkGives s kind start target) (walk_only s kind start target)
 
-pub trial_call-only : (s patch : List ℕ) (kind start target : ℕ) (before : List ℕ) (m n : ℕ) (x y : List ℕ)
+pub trial_call_only : (s patch : List ℕ) (kind start target : ℕ) (before : List ℕ) (m n : ℕ) (x y : List ℕ)
     → TrialWalkCall s patch kind start target before m x → TrialWalkCall s patch kind start target before n y → (m ≡ n) × (x ≡ y)
-trial_call-only s patch kind start target = leaves_only (TrialGives s patch kind start target) (trial_only s patch kind start target)
+trial_call_only s patch kind start target = leaves_only (TrialGives s patch kind start target) (trial_only s patch kind start target)
