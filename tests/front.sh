@@ -287,13 +287,15 @@ calls() {
 
 first_run() {
     local not_built='fpb report: report is not built yet from these sources: proving it and what it rests on, [0-9]* crates; *minutes*/'
+    local count
+    count=$(cd "$root" && . tools/build.sh && needed_by report | wc -l)
     fresh 0
     expect 2 '' 'fpb report: report is not built yet from these sources, and rt, * is not on the PATH/' without_rt "$work/copy/fpb" report "$one"
     expect 2 '' 'fpb report: report is not built yet from these sources, and the Rattle kit is not where rt is, in */kit: RATTLE_HOME *' \
         env PATH="$work/kit/bin:$PATH" "$work/copy/fpb" report "$one"
     expect 2 '' 'fpb report: nothing.picture cannot be opened: No such file or directory/' copy report nothing.picture
     calls 0
-    expect 0 'ports 1/clear/' "${not_built}fpb report: 1 of [0-9]* proved: ids/fpb report: [0-9]* of [0-9]* proved: report/" copy report "$one"
+    expect 0 'ports 1/clear/' "${not_built}fpb report: 1 of $count proved: ids/fpb report: $count of $count proved: report/" copy report "$one"
     calls 1
     expect 0 'ports 1/clear/' '' copy report "$one"
     expect 0 'ports 1/clear/' '' without_rt "$work/copy/fpb" report "$one"

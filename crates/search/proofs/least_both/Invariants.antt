@@ -1,3 +1,4 @@
+-- The loop has passed no target that both have as wanted, below `i`.
 use Rattle.least.proofs.Laws.{NoneIn}
 use Rattle.search.specs.Search.{meets}
 use Rattle.std.proofs.Common.{◌-◌, ◌^◌}

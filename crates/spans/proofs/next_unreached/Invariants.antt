@@ -1,3 +1,4 @@
+-- The loop has passed nothing but what is reached, from `from` on and below `i`.
 use Rattle.least.proofs.Laws.{NoneIn}
 use Rattle.spans.specs.Reaches.{misses}
 use Rattle.std.proofs.Common.{◌-◌, ◌^◌, ◌≤◌}

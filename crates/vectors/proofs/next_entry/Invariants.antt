@@ -1,3 +1,4 @@
+-- The loop has found no entry as wanted from `from` on and below `i`.
 use Rattle.least.proofs.Laws.{NoneIn}
 use Rattle.vectors.specs.Vectors.{entry_is}
 use Rattle.std.proofs.Common.{◌-◌, ◌≤◌}
