@@ -8,7 +8,7 @@
 built=target/fpb
 
 # How long it takes to prove all that a program needs, from nothing.
-build_time="about 30 minutes on two cores, more on a slow machine"
+build_time="about 10 minutes on two cores, more on a slow machine"
 
 # fingerprint: one word for the sources as they are now, whatever their dates and whatever rt has made of them
 fingerprint() {
