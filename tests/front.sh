@@ -338,12 +338,14 @@ wait_for() {
 }
 
 two_at_once() {
+    local count
+    count=$(cd "$root" && . tools/build.sh && needed_by report | wc -l)
     fresh 12
     copy report "$one" >"$work/first" 2>&1 &
     wait_for "$work/kit/calls"
     expect 0 'ports 1/clear/' 'fpb report: another build runs in this checkout; waiting for it to end/' copy report "$one"
     wait $!
-    expect 0 '*/fpb report: 1 of [0-9]* proved, being proved: report/*/ports 1/clear/' '' cat "$work/first"
+    expect 0 "*/fpb report: $((count - 1)) of $count proved, being proved: report/*/ports 1/clear/" '' cat "$work/first"
     calls 1
 }
 

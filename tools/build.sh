@@ -79,7 +79,8 @@ tell() {
 }
 
 # progress CRATE..: passes on what rt prints as it proves these, one after another; says on standard error which one is proved, n of
-# them, and every 10 seconds without such news what is being proved
+# them, and every 10 seconds without such news what is being proved. rt says nothing of one that has not changed: it counts as
+# proved once a later one is under way.
 progress() {
     local count=$# n=0 line part='' name='' under_way=''
     local -A place=()
@@ -92,6 +93,7 @@ progress() {
             printf '%s\n' "$line"
             if [[ $line =~ ^rt:\ chose\ --jobs\ [0-9]+\ for\ ([a-z_0-9]+)$ || $line =~ ^(fn|impl|struct|enum)\ ([a-z_0-9]+):: ]]; then
                 under_way=${BASH_REMATCH[-1]}
+                if [ -n "${place[$under_way]-}" ]; then n=$((place[$under_way] - 1)); fi
             elif [[ $line =~ ^crate\ ([a-z_0-9]+):\  ]]; then
                 name=${BASH_REMATCH[1]}
             elif [[ $line == 'logic=proved '* && -n ${place[$name]-} ]]; then
