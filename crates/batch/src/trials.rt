@@ -1,8 +1,8 @@
 // The answer lines of trials.
 use crate::lines::{print_call, print_line, print_number};
 use answers::ANSWER_BYTES;
-use judge::PartAnswer;
 use patches::{Place, Source};
+use picture::Refusal;
 use registers::Mechanism;
 use std::io;
 use texts::Text;
@@ -53,10 +53,10 @@ fn print_place(rt: &impl Print, place: Place) -> io::Result<()> {
     )
 }
 
-fn print_part_answer(rt: &impl Print, answer: PartAnswer) -> io::Result<()> {
+fn print_part_answer(rt: &impl Print, answer: Result<Place, Refusal>) -> io::Result<()> {
     match answer {
-        PartAnswer::Refused(r) => print_number(rt, r.number),
-        PartAnswer::Lies(place) => print_place(rt, place),
+        Err(r) => print_number(rt, r.number),
+        Ok(place) => print_place(rt, place),
     }
 }
 

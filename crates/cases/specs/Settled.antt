@@ -3,13 +3,13 @@ mod Words
 use Words.*
 
 -- the entry that applies, and that none does
-abbrev pub is_entry : ℕ → Found → Bool
-is_entry i (At j) = eqb i j
-is_entry i Nothing = false
+abbrev pub is_entry : ℕ → Option ℕ → Bool
+is_entry i (Some j) = eqb i j
+is_entry i None = false
 
-abbrev pub no_entry : Found → Bool
-no_entry (At i) = false
-no_entry Nothing = true
+abbrev pub no_entry : Option ℕ → Bool
+no_entry (Some i) = false
+no_entry None = true
 
 -- what a port answers
 abbrev pub word_of : Conversion → ℕ
@@ -18,9 +18,9 @@ word_of Type0 = 1
 word_of Type1 = 2
 word_of Unsupported = 3
 
-abbrev pub is_conversion : Conversion → ConvertAnswer → Bool
-is_conversion wanted (Converted given) = eqb (word_of wanted) (word_of given)
-is_conversion wanted (Refused r) = false
+abbrev pub is_conversion : Conversion → Result Conversion Refusal → Bool
+is_conversion wanted (Ok given) = eqb (word_of wanted) (word_of given)
+is_conversion wanted (Err r) = false
 
 -- registers with all vectors of 256 entries: RID, Low and High control, and the second High control
 abbrev pub fpb_of : ℕ → ℕ → ℕ → ℕ → Fpb
@@ -53,7 +53,7 @@ memory_of base limit =
 abbrev pub control_of : ℕ → ℕ → ℕ → ℕ
 control_of low start granularity = start * 2 ^ low + granularity * 2 ^ 4 + 1
 
-abbrev pub rid_entry : ℕ → ℕ → ℕ → Found
+abbrev pub rid_entry : ℕ → ℕ → ℕ → Option ℕ
 rid_entry start granularity rid = entry_of (settings_of (fpb_of (control_of 19 start granularity) 0 0 0) Rid) rid
 
 abbrev pub low_fpb : Fpb

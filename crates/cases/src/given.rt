@@ -5,7 +5,6 @@ ghost use Rattle.registers.specs.Vectors.{settings_of};
 ghost use Rattle.cases.specs.Chain.{chain_with};
 ghost use Rattle.cases.specs.Settled.{fpb_of, memory_of};
 
-use least::Found;
 use registers::{Bridge, Fpb, Mechanism};
 
 // Registers with all vectors of 256 entries.
@@ -41,7 +40,7 @@ pub fn memory_of(base: u16, limit: u16) -> Bridge
 }
 
 // The entry that applies to a target by these registers.
-pub fn entry_of(f: Fpb, m: Mechanism, t: u64) -> Found
+pub fn entry_of(f: Fpb, m: Mechanism, t: u64) -> Option<u64>
     ensures { result ≡ entry_of (settings_of f m) t }
 {
     vectors::entry(registers::settings(f, m), t)

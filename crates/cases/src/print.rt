@@ -1,7 +1,7 @@
 // Printing what the code answers.
 use chassis::{Conversion, End};
-use judge::{ConvertAnswer, Outcome, WalkAnswer};
-use least::Found;
+use picture::Refusal;
+use routes::Walked;
 use std::io;
 
 // The name of a case, which begins its line.
@@ -15,10 +15,10 @@ pub fn end(rt: &impl Print) -> io::Result<()> {
 }
 
 // The entry that applies, or that none does.
-pub fn entry(rt: &impl Print, found: Found) -> io::Result<()> {
+pub fn entry(rt: &impl Print, found: Option<u64>) -> io::Result<()> {
     match found {
-        Found::At(i) => print!(rt; " entry {i}"),
-        Found::Nothing => rt.print(" no entry"),
+        Some(i) => print!(rt; " entry {i}"),
+        None => rt.print(" no entry"),
     }
 }
 
@@ -42,23 +42,25 @@ pub fn conversion(rt: &impl Print, made: Conversion) -> io::Result<()> {
 }
 
 // What the conversion call answers.
-pub fn answer(rt: &impl Print, answer: ConvertAnswer) -> io::Result<()> {
+pub fn answer(rt: &impl Print, answer: Result<Conversion, Refusal>) -> io::Result<()> {
     match answer {
-        ConvertAnswer::Refused(r) => {
+        Err(r) => {
             let number = r.number;
             print!(rt; " refused {number}")
         }
-        ConvertAnswer::Converted(made) => conversion(rt, made),
+        Ok(made) => conversion(rt, made),
     }
 }
 
 // The Function number of a configuration request that ends at a device.
-pub fn function(rt: &impl Print, answer: WalkAnswer) -> io::Result<()> {
-    let outcome = answer.outcome;
-    if let Outcome::Ended(end) = outcome {
-        if let End::Device(_, number) = end {
-            return print!(rt; " Function {number}");
-        }
+pub fn function(rt: &impl Print, answer: Result<Walked, Refusal>) -> io::Result<()> {
+    match answer {
+        Ok(
+            Walked {
+                end: End::Device(_, number),
+                ..
+            },
+        ) => print!(rt; " Function {number}"),
+        _ => Ok(()),
     }
-    Ok(())
 }

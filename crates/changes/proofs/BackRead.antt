@@ -9,8 +9,6 @@ use borrow.Author.Tests.{eqb-true, eqb-false, ltb-false}
 use lib.Dec.{eqb, ltb}
 use lib.ListN.{length, drop}
 use lib.Seq.{set-append_left}
-use Rattle.least.specs.declared.Found.{Found}
-use Rattle.least.specs.declared.Found.TheVariants.{At, Nothing}
 use Rattle.picture.specs.Reading.{reading, number_of}
 use Rattle.changes.specs.declared.Change.{Change}
 use Rattle.changes.specs.Change.{byte_named}
@@ -19,15 +17,16 @@ use Rattle.changes.specs.ReadingBack.{version_number, read_back}
 use Rattle.changes.proofs.Named.{named, within}
 use Rattle.changes.proofs.Reading.{Read-as}
 use Rattle.changes.proofs.Held.{up_to_length}
+use Rattle.std.specs.Prelude.{Option, Some, None}
 
 module _ (first : List ℕ) (sound : Read-as first) where
   made_front : (c : Change) (bytes rest : List ℕ) → length bytes ≡ length first → made first c (bytes ++ rest) ≡ made first c bytes ++ rest
   unfolding made
   made_front c bytes rest same = go (byte_named first c) refl
     where
-      go : (found : Found) → byte_named first c ≡ found → byte_set found c.new_byte (bytes ++ rest) ≡ byte_set found c.new_byte bytes ++ rest
-      go (At x) e = set-append_left bytes rest x c.new_byte (subst (λ (n : ℕ). x < n) (sym same) (within first sound.header sound.all c x (named first c x e)))
-      go Nothing e = refl
+      go : (found : Option ℕ) → byte_named first c ≡ found → byte_set found c.new_byte (bytes ++ rest) ≡ byte_set found c.new_byte bytes ++ rest
+      go (Some x) e = set-append_left bytes rest x c.new_byte (subst (λ (n : ℕ). x < n) (sym same) (within first sound.header sound.all c x (named first c x e)))
+      go None e = refl
 
   pub up_to_front : (changes : List Change) (bytes rest : List ℕ) → length bytes ≡ length first → (k : ℕ) → made_up_to first changes (bytes ++ rest) k ≡ made_up_to first changes bytes k ++ rest
   unfolding made_up_to

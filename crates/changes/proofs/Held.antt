@@ -12,8 +12,6 @@ use lib.Dec.{eqb, ltb}
 use lib.ListN.{length, get_or, length-set, get_or-eq_default}
 use lib.Seq.{get_or-set_same, get_or-set_other}
 use Rattle.least.proofs.Laws.{impossible}
-use Rattle.least.specs.declared.Found.{Found}
-use Rattle.least.specs.declared.Found.TheVariants.{At, Nothing}
 use Rattle.chassis.proofs.Bools.{and_true_parts}
 use Rattle.chassis.specs.Tree.{any_below}
 use Rattle.trees.specs.Trees.{count_of}
@@ -25,11 +23,12 @@ use Rattle.changes.specs.Adding.{is_none, byte_at, is_another, names_none, old_w
 use Rattle.changes.specs.Looking.{same_byte, held_after, held_up_to, lower}
 use Rattle.changes.proofs.Named.{named, within, same_place}
 use Rattle.changes.proofs.Reading.{Read-as}
+use Rattle.std.specs.Prelude.{Option, Some, None}
 
 -- a change keeps the length
-with_length : (found : Found) (byte : ℕ) (bytes : List ℕ) → length (byte_set found byte bytes) ≡ length bytes
-with_length (At x) byte bytes = length-set bytes x byte
-with_length Nothing byte bytes = refl
+with_length : (found : Option ℕ) (byte : ℕ) (bytes : List ℕ) → length (byte_set found byte bytes) ≡ length bytes
+with_length (Some x) byte bytes = length-set bytes x byte
+with_length None byte bytes = refl
 
 pub made_length : (first : List ℕ) (c : Change) (bytes : List ℕ) → length (made first c bytes) ≡ length bytes
 unfolding made
@@ -48,7 +47,7 @@ same_named first d c e =
     let two = and_true_parts (eqb d.port c.port) (eqb d.part c.part) both.0 in
     rw (eqb-true d.port c.port two.0, eqb-true d.part c.part two.1, eqb-true d.at c.at both.1)
 
-module _ (first : List ℕ) (sound : Read-as first) (c : Change) (x : ℕ) (is : byte_named first c ≡ At x) where
+module _ (first : List ℕ) (sound : Read-as first) (c : Change) (x : ℕ) (is : byte_named first c ≡ Some x) where
   -- the byte after one change more
   after_one : (d : Change) (bytes : List ℕ) → length bytes ≡ length first → get_or (made first d bytes) x 0 ≡ held_after d c (get_or bytes x 0)
   unfolding made held_after
@@ -57,16 +56,16 @@ module _ (first : List ℕ) (sound : Read-as first) (c : Change) (x : ℕ) (is :
       there : x < length bytes
       there = subst (λ (n : ℕ). x < n) (sym same) (within first sound.header sound.all c x (named first c x is))
 
-      go : (found : Found) → byte_named first d ≡ found → (b : Bool) → same_byte d c ≡ b → get_or (byte_set found d.new_byte bytes) x 0 ≡ cond b d.new_byte (get_or bytes x 0)
-      go (At y) e true s =
-          let one : At y ≡ At x = sym e ∙ same_named first d c s ∙ is in
+      go : (found : Option ℕ) → byte_named first d ≡ found → (b : Bool) → same_byte d c ≡ b → get_or (byte_set found d.new_byte bytes) x 0 ≡ cond b d.new_byte (get_or bytes x 0)
+      go (Some y) e true s =
+          let one : Some y ≡ Some x = sym e ∙ same_named first d c s ∙ is in
           let place : y ≡ x = cc in
           rw place (get_or-set_same bytes x d.new_byte 0 there)
-      go (At y) e false s =
+      go (Some y) e false s =
           get_or-set_other bytes y x d.new_byte 0 (λ (place : x ≡ y).
           let t : true ≡ false = sym (same_place first sound.header sound.all d c x (named first d x (rw place e)) (named first c x is)) ∙ s in impossible (cc))
-      go Nothing e true s = let one : Nothing ≡ At x = sym e ∙ same_named first d c s ∙ is in impossible (cc)
-      go Nothing e false s = refl
+      go None e true s = let one : None ≡ Some x = sym e ∙ same_named first d c s ∙ is in impossible (cc)
+      go None e false s = refl
 
   -- and after the first k of a run
   pub held_is : (changes : List Change) (bytes : List ℕ) → length bytes ≡ length first → (k : ℕ) → held_up_to changes c (get_or bytes x 0) k ≡ get_or (made_up_to first changes bytes k) x 0
@@ -81,7 +80,7 @@ past_end : (first : List ℕ) (bytes : List ℕ) → made first no_change bytes 
 unfolding made byte_named part_bytes
 past_end first bytes = go (ltb 0 (count_of first)) _
   where
-    go : (b : Bool) (x : ℕ) → byte_set (cond (b && false) (At x) Nothing) 0 bytes ≡ bytes
+    go : (b : Bool) (x : ℕ) → byte_set (cond (b && false) (Some x) None) 0 bytes ≡ bytes
     go true x = refl
     go false x = refl
 
@@ -116,14 +115,14 @@ wrong_is first room run kept i sound = go (byte_named first (change_at run i)) r
     held : ℕ
     held = cond (ltb (length room) kept) (length room) kept
 
-    go : (found : Found) → byte_named first c ≡ found
+    go : (found : Option ℕ) → byte_named first c ≡ found
         → is_another found (held_up_to run c (held_up_to room c (byte_at found first) held) i) c.old_byte
         ≡ is_another found (byte_at found (made_up_to first run (version first room kept) i)) c.old_byte
-    go (At x) e =
+    go (Some x) e =
         ap (λ (b : ℕ). not (eqb b c.old_byte))
         (ap (λ (b : ℕ). held_up_to run c b i) (held_is first sound c x e room first refl held ∙ ap (λ (bytes : List ℕ). get_or bytes x 0) (version_held first room kept))
         ∙ held_is first sound c x e run (version first room kept) (up_to_length first room first kept) i)
-    go Nothing e = refl
+    go None e = refl
 
 -- 37 and 38 over one change more
 pub number_more : (first bytes : List ℕ) (run : List Change) (i : ℕ) → lower (run_number first bytes run i) (names_none first run i) (old_wrong first bytes run i) ≡ run_number first bytes run (i + 1)

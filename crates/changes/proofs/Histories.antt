@@ -12,8 +12,6 @@ use lib.Dec.{eqb}
 use lib.ListN.{length, get_or, set, take}
 use lib.Seq.{get_or-set_same, get_or-set_other, get_or-take}
 use Rattle.least.proofs.Laws.{impossible}
-use Rattle.least.specs.declared.Found.{Found}
-use Rattle.least.specs.declared.Found.TheVariants.{At, Nothing}
 use Rattle.chassis.proofs.Bools.{or_false_parts}
 use Rattle.chassis.specs.Tree.{any_below}
 use Rattle.changes.specs.declared.Change.{Change}
@@ -25,6 +23,7 @@ use Rattle.changes.proofs.Reading.{Read-as, reads_zero}
 use Rattle.changes.proofs.Held.{up_to_length}
 use Rattle.changes.proofs.Stood.{stood, stood_length, stands}
 use Rattle.changes.proofs.Added.{Added, adding_zero, records_left}
+use Rattle.std.specs.Prelude.{Option, Some, None}
 
 -- what stands in the room after some changes of the run were written: before the place what stood there, and from it on those changes
 stood_before : (room run : List Change) (from i j : ℕ) → j < from → change_at (stood room run from i) j ≡ change_at room j
@@ -103,14 +102,14 @@ right_run first bytes run n z = go (any_below (names_none first run) n) refl (an
 -- what one change of an added run does: it names a byte, which holds the old byte in the version before it and the new one in the version after it
 abbrev pub Does : List ℕ → List Change → Change → ℕ → ℕ → Type 0
 Does first room c k x =
-    (byte_named first c ≡ At x) × (get_or (version first room k) x 0 ≡ c.old_byte) × (get_or (version first room (suc k)) x 0 ≡ c.new_byte)
+    (byte_named first c ≡ Some x) × (get_or (version first room k) x 0 ≡ c.old_byte) × (get_or (version first room (suc k)) x 0 ≡ c.new_byte)
 
 one_more : (first : List ℕ) (changes : List Change) (bytes : List ℕ) (k : ℕ) → made_up_to first changes bytes (suc k) ≡ made first (change_at changes k) (made_up_to first changes bytes k)
 unfolding made_up_to
 one_more first changes bytes k = refl
 
 -- a change that is made leaves its new byte
-made_there : (first : List ℕ) → Read-as first → (c : Change) (x : ℕ) → byte_named first c ≡ At x → (bytes : List ℕ) → length bytes ≡ length first → get_or (made first c bytes) x 0 ≡ c.new_byte
+made_there : (first : List ℕ) → Read-as first → (c : Change) (x : ℕ) → byte_named first c ≡ Some x → (bytes : List ℕ) → length bytes ≡ length first → get_or (made first c bytes) x 0 ≡ c.new_byte
 unfolding made
 made_there first sound c x e bytes long =
     rw e (get_or-set_same bytes x c.new_byte 0 (subst (λ (n : ℕ). x < n) (sym long) (within first sound.header sound.all c x (named first c x e))))
@@ -140,11 +139,11 @@ module _ (first : List ℕ) (room run : List Change) (kept : ℕ) (zero_number :
       long : length bytes ≡ length first
       long = up_to_length first run (version first room kept) i ∙ up_to_length first room first kept
 
-      new_is : (x : ℕ) → byte_named first c ≡ At x → get_or (made_up_to first run (version first room kept) (suc i)) x 0 ≡ c.new_byte
+      new_is : (x : ℕ) → byte_named first c ≡ Some x → get_or (made_up_to first run (version first room kept) (suc i)) x 0 ≡ c.new_byte
       new_is x e = ap (λ (b : List ℕ). get_or b x 0) (one_more first run (version first room kept) i) ∙ made_there first sound c x e bytes long
 
-      go : (found : Found) → byte_named first c ≡ found → is_none found ≡ false → is_another found (byte_at found bytes) c.old_byte ≡ false → (x : ℕ) × Does first (behind room kept run) c (kept + i) x
-      go (At x) e some same = (
+      go : (found : Option ℕ) → byte_named first c ≡ found → is_none found ≡ false → is_another found (byte_at found bytes) c.old_byte ≡ false → (x : ℕ) × Does first (behind room kept run) c (kept + i) x
+      go (Some x) e some same = (
         x,
         (
           e,
@@ -155,4 +154,4 @@ module _ (first : List ℕ) (room run : List Change) (kept : ℕ) (zero_number :
               ∙ new_is x e,
         ),
       )
-      go Nothing e some same = impossible (cc)
+      go None e some same = impossible (cc)

@@ -12,7 +12,6 @@ use borrow.Author.Tests.{lt-ltb, ltb-true, eqb-true, eq-eqb, not-false}
 use lib.Dec.{eqb, ltb}
 use lib.ListN.{length}
 use Rattle.least.proofs.Laws.{impossible}
-use Rattle.least.specs.declared.Found.TheVariants.{At, Nothing}
 use Rattle.registers.proofs.Laws.{record_next, record_mono, record_behind}
 use Rattle.registers.specs.Record.{edition_of, record_bytes, record_at, record_in, port_at}
 use Rattle.trees.specs.Trees.{count_of}
@@ -22,6 +21,7 @@ use Rattle.picture.specs.Layout.{all_bytes, running_offset, end_wrong}
 use Rattle.changes.specs.declared.Change.{Change}
 use Rattle.changes.specs.Change.{in_record, in_vectors, part_bytes, part_start, byte_named}
 use Rattle.changes.specs.Looking.{same_byte}
+use Rattle.std.specs.Prelude.{Some, None}
 
 -- a record ends where the next one starts
 pub record_first : (edition : ℕ) → record_at edition 0 ≤ record_at edition 1
@@ -44,13 +44,13 @@ pub record Named (first : List ℕ) (c : Change) (x : ℕ) : Type 0 where
   pub at_there : c.at < part_bytes first c.port c.part
   pub place : x ≡ part_start first c.port c.part + c.at
 
-pub named : (first : List ℕ) (c : Change) (x : ℕ) → byte_named first c ≡ At x → Named first c x
+pub named : (first : List ℕ) (c : Change) (x : ℕ) → byte_named first c ≡ Some x → Named first c x
 unfolding byte_named
 named first c x e = go (ltb c.port (count_of first)) refl (ltb c.at (part_bytes first c.port c.part)) refl e
   where
     go : (a : Bool) → ltb c.port (count_of first) ≡ a → (b : Bool) → ltb c.at (part_bytes first c.port c.part) ≡ b
-        → cond (a && b) (At (part_start first c.port c.part + c.at)) Nothing ≡ At x → Named first c x
-    go true port true at e = record { port_there = ltb-true _ _ port; at_there = ltb-true _ _ at; place = let z : At (part_start first c.port c.part + c.at) ≡ At x = e in cc }
+        → cond (a && b) (Some (part_start first c.port c.part + c.at)) None ≡ Some x → Named first c x
+    go true port true at e = record { port_there = ltb-true _ _ port; at_there = ltb-true _ _ at; place = let z : Some (part_start first c.port c.part + c.at) ≡ Some x = e in cc }
     go true port false at e = impossible (cc)
     go false port b at e = impossible (cc)
 
@@ -125,27 +125,27 @@ module _ (first : List ℕ) (h : Header) (reads : Reads first h) where
       go (inr r) (inl s) = absurd (apart c.port d.port c.at d.at other.port_there s.1.1 (sym s.1.0 ∙ r.1.0))
 
   -- and every byte behind the header is named
-  byte_in : (p part at x : ℕ) → p < count_of first → at < part_bytes first p part → x ≡ part_start first p part + at → (c : Change) × (byte_named first c ≡ At x)
+  byte_in : (p part at x : ℕ) → p < count_of first → at < part_bytes first p part → x ≡ part_start first p part + at → (c : Change) × (byte_named first c ≡ Some x)
   unfolding byte_named
   byte_in p part at x below there is =
       (record { port = p; part = part; at = at; old_byte = 0; new_byte = 0 }, rw (lt-ltb p (count_of first) below, lt-ltb at (part_bytes first p part) there, is))
 
   -- in which of the first n records or sets of vectors a place lies
-  in-records : (n x : ℕ) → n ≤ count_of first → 16 ≤ x → x < record_in first n → (c : Change) × (byte_named first c ≡ At x)
+  in-records : (n x : ℕ) → n ≤ count_of first → 16 ≤ x → x < record_in first n → (c : Change) × (byte_named first c ≡ Some x)
   unfolding part_bytes part_start
   in-records zero x few from below = absurd (omega (arith, from, below, record_start (edition_of first)))
   in-records (suc n) x few from below = go (in-records n x (omega (arith, few)) from) (dec_lt x (record_in first n))
     where
-      go : (x < record_in first n → (c : Change) × (byte_named first c ≡ At x)) → Dec (x < record_in first n) → (c : Change) × (byte_named first c ≡ At x)
+      go : (x < record_in first n → (c : Change) × (byte_named first c ≡ Some x)) → Dec (x < record_in first n) → (c : Change) × (byte_named first c ≡ Some x)
       go lower (yes l) = lower l
       go lower (no l) = byte_in n in_record (x - record_in first n) x (omega (arith, few)) (omega (arith, l, below, record_next (edition_of first) n)) (omega (arith, l))
 
-  in-vectors : (n x : ℕ) → n ≤ count_of first → running_offset first 0 ≤ x → x < running_offset first n → (c : Change) × (byte_named first c ≡ At x)
+  in-vectors : (n x : ℕ) → n ≤ count_of first → running_offset first 0 ≤ x → x < running_offset first n → (c : Change) × (byte_named first c ≡ Some x)
   unfolding part_bytes part_start running_offset
   in-vectors zero x few from below = absurd (omega (arith, from, below))
   in-vectors (suc n) x few from below = go (in-vectors n x (omega (arith, few)) from) (dec_lt x (running_offset first n))
     where
-      go : (x < running_offset first n → (c : Change) × (byte_named first c ≡ At x)) → Dec (x < running_offset first n) → (c : Change) × (byte_named first c ≡ At x)
+      go : (x < running_offset first n → (c : Change) × (byte_named first c ≡ Some x)) → Dec (x < running_offset first n) → (c : Change) × (byte_named first c ≡ Some x)
       go lower (yes l) = lower l
       go lower (no l) =
           byte_in n in_vectors (x - running_offset first n) x (omega (arith, few)) (omega (arith, l, below))
@@ -155,11 +155,11 @@ module _ (first : List ℕ) (h : Header) (reads : Reads first h) where
   unfolding end_wrong
   ends = eqb-true _ _ (not-false (eqb (running_offset first (count_of first)) (length first)) reads.end_right)
 
-  pub all_named : (x : ℕ) → 16 ≤ x → x < length first → (c : Change) × (byte_named first c ≡ At x)
+  pub all_named : (x : ℕ) → 16 ≤ x → x < length first → (c : Change) × (byte_named first c ≡ Some x)
   unfolding running_offset
   all_named x from below = go (dec_lt x (record_in first (count_of first)))
     where
-      go : Dec (x < record_in first (count_of first)) → (c : Change) × (byte_named first c ≡ At x)
+      go : Dec (x < record_in first (count_of first)) → (c : Change) × (byte_named first c ≡ Some x)
       go (yes l) = in-records (count_of first) x (omega arith) from l
       go (no l) = in-vectors (count_of first) x (omega arith) (omega (arith, l)) (subst (λ (n : ℕ). x < n) (sym ends) below)
 

@@ -8,17 +8,15 @@ use native.Mathlib.Omega.{arith}
 use borrow.Author.Tests.{eqb-true}
 use lib.Dec.{eqb}
 use lib.ListN.{length}
-use Rattle.least.specs.declared.Found.{Found}
-use Rattle.least.specs.declared.Found.TheVariants.{At, Nothing}
 use Rattle.least.specs.Least.{first_in}
 use Rattle.trees.specs.Trees.{count_of}
 use Rattle.picture.proofs.WhatReads.{Reads, reads, count_read, count_few}
 use Rattle.picture.specs.declared.Header.{Header}
-use Rattle.picture.specs.declared.Reading.{Reading}
-use Rattle.picture.specs.declared.Reading.TheVariants.{Read}
 use Rattle.picture.specs.declared.Rule.TheVariants.{Tree, Chain, Settings, Start}
 use Rattle.picture.specs.Header.{header_of, length_wrong, edition_wrong, count_wrong, total_wrong, offset_wrong}
 use Rattle.picture.specs.Reading.{breaks, misplaced_in, refused_if, refused_at, ports_reading, reading, number_of}
+use Rattle.std.specs.Prelude.{Option, Some, None, Result, Ok}
+use Rattle.picture.specs.declared.Refusal.{Refusal}
 
 -- a picture that reads, with the header that is read
 pub record Read-as (first : List ℕ) : Type 0 where
@@ -26,16 +24,16 @@ pub record Read-as (first : List ℕ) : Type 0 where
   pub all : Reads first header
 
 -- with number 0 it is a header that was read
-abbrev Sound : Reading → Type 0
-Sound got = number_of got ≡ 0 → (h : Header) × (got ≡ Read h)
+abbrev Sound : Result Header Refusal → Type 0
+Sound got = number_of got ≡ 0 → (h : Header) × (got ≡ Ok h)
 
-past_if : (wrong : Bool) (number port : ℕ) (rest : Reading) → 0 < number → Sound rest → Sound (refused_if wrong number port rest)
+past_if : (wrong : Bool) (number port : ℕ) (rest : Result Header Refusal) → 0 < number → Sound rest → Sound (refused_if wrong number port rest)
 past_if true number port rest more sound e = absurd (omega (arith, more, e))
 past_if false number port rest more sound e = sound e
 
-past_at : (found : Found) (number : ℕ) (rest : Reading) → 0 < number → Sound rest → Sound (refused_at found number rest)
-past_at (At p) number rest more sound e = absurd (omega (arith, more, e))
-past_at Nothing number rest more sound e = sound e
+past_at : (found : Option ℕ) (number : ℕ) (rest : Result Header Refusal) → 0 < number → Sound rest → Sound (refused_at found number rest)
+past_at (Some p) number rest more sound e = absurd (omega (arith, more, e))
+past_at None number rest more sound e = sound e
 
 sound : (first : List ℕ) → Sound (reading first)
 unfolding reading ports_reading
@@ -52,16 +50,16 @@ sound first =
     (past_at (misplaced_in first) 10 _ (omega arith) (λ e. (header_of first, refl)))))))))))
 
 -- a number of the table has few bits
-abbrev Few : Reading → Type 0
+abbrev Few : Result Header Refusal → Type 0
 Few got = number_of got < 2 ^ 32
 
-few_if : (wrong : Bool) (number port : ℕ) (rest : Reading) → number < 2 ^ 32 → Few rest → Few (refused_if wrong number port rest)
+few_if : (wrong : Bool) (number port : ℕ) (rest : Result Header Refusal) → number < 2 ^ 32 → Few rest → Few (refused_if wrong number port rest)
 few_if true number port rest few others = few
 few_if false number port rest few others = others
 
-few_at : (found : Found) (number : ℕ) (rest : Reading) → number < 2 ^ 32 → Few rest → Few (refused_at found number rest)
-few_at (At p) number rest few others = few
-few_at Nothing number rest few others = others
+few_at : (found : Option ℕ) (number : ℕ) (rest : Result Header Refusal) → number < 2 ^ 32 → Few rest → Few (refused_at found number rest)
+few_at (Some p) number rest few others = few
+few_at None number rest few others = others
 
 pub reading_small : (first : List ℕ) → Few (reading first)
 unfolding reading ports_reading

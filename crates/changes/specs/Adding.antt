@@ -1,9 +1,7 @@
 -- 02, Item 11: "Adding refuses, in this order, a port or byte that does not exist (37), an old byte that is not what the version before
 -- it holds (38), and a full room (39, exactly if the changes kept and the run together outnumber the records of the lent room); a run
 -- is added whole or not at all."
-use Rattle.std.specs.Prelude.{ℕ, ◌+◌, Bool, true, false, not, cond, ◌||◌, List, ◌++◌, eqb, ltb, length, get_or, take, drop}
-use Rattle.least.specs.declared.Found.{Found}
-use Rattle.least.specs.declared.Found.TheVariants.{At, Nothing}
+use Rattle.std.specs.Prelude.{ℕ, ◌+◌, Bool, true, false, not, cond, ◌||◌, List, ◌++◌, eqb, ltb, length, get_or, take, drop, Option, Some, None}
 use Rattle.chassis.specs.Tree.{any_below}
 use Rattle.picture.specs.Reading.{reading, number_of}
 use Rattle.changes.specs.declared.Change.{Change}
@@ -11,18 +9,18 @@ use Rattle.changes.specs.Change.{byte_named}
 use Rattle.changes.specs.Versions.{change_at, made_up_to, version}
 
 -- whether no byte is named
-abbrev pub is_none : Found → Bool
-is_none (At x) = false
-is_none Nothing = true
+abbrev pub is_none : Option ℕ → Bool
+is_none (Some x) = false
+is_none None = true
 
 -- the byte that bytes hold where one is named, and whether one is named that holds another than is said
-abbrev pub byte_at : Found → List ℕ → ℕ
-byte_at (At x) bytes = get_or bytes x 0
-byte_at Nothing bytes = 0
+abbrev pub byte_at : Option ℕ → List ℕ → ℕ
+byte_at (Some x) bytes = get_or bytes x 0
+byte_at None bytes = 0
 
-abbrev pub is_another : Found → ℕ → ℕ → Bool
-is_another (At x) held said = not (eqb held said)
-is_another Nothing held said = false
+abbrev pub is_another : Option ℕ → ℕ → ℕ → Bool
+is_another (Some x) held said = not (eqb held said)
+is_another None held said = false
 
 -- 37 and 38 at change i of a run, `bytes` being the version that the run is added to
 unfoldable pub names_none : List ℕ → List Change → ℕ → Bool

@@ -1,14 +1,12 @@
 -- 02, Item 11: "Version k is the first picture with the first k changes made."
-use Rattle.std.specs.Prelude.{ℕ, zero, suc, List, get_or, set}
-use Rattle.least.specs.declared.Found.{Found}
-use Rattle.least.specs.declared.Found.TheVariants.{At, Nothing}
+use Rattle.std.specs.Prelude.{ℕ, zero, suc, List, get_or, set, Option, Some, None}
 use Rattle.changes.specs.declared.Change.{Change}
 use Rattle.changes.specs.Change.{byte_named}
 
 -- bytes with one of them set, where one is named
-abbrev pub byte_set : Found → ℕ → List ℕ → List ℕ
-byte_set (At x) byte bytes = set bytes x byte
-byte_set Nothing byte bytes = bytes
+abbrev pub byte_set : Option ℕ → ℕ → List ℕ → List ℕ
+byte_set (Some x) byte bytes = set bytes x byte
+byte_set None byte bytes = bytes
 
 -- bytes with a change made
 unfoldable pub made : List ℕ → Change → List ℕ → List ℕ

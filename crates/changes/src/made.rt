@@ -8,7 +8,6 @@ ghost use Rattle.changes.specs.Looking.{held_after};
 
 use crate::Change;
 use crate::places::byte_named;
-use least::Found;
 
 // The byte that a change names, as the first picture has it.
 pub fn first_byte(first: &[u8], c: Change) -> u8
@@ -16,8 +15,8 @@ pub fn first_byte(first: &[u8], c: Change) -> u8
     ensures { result ≡ byte_at (byte_named first.now c) first.now }
 {
     match byte_named(first, c) {
-        Found::At(x) => lent::u8_at(first, x as usize),
-        Found::Nothing => 0,
+        Some(x) => lent::u8_at(first, x as usize),
+        None => 0,
     }
 }
 
@@ -40,7 +39,7 @@ pub fn make_change(first: &[u8], out: &mut [u8], c: Change)
     ensures { out.new ≡ made first.now c out.old }
 {
     let named = byte_named(first, c);
-    let Found::At(x) = named else {
+    let Some(x) = named else {
         return;
     };
     let at = x as usize;

@@ -9,8 +9,6 @@ ghost use Rattle.changes.specs.Looking.{lower};
 
 use crate::Change;
 use crate::places::byte_named;
-use least::Found;
-use picture::Reading;
 
 // The most changes that a number of 32 bits counts.
 const MOST_CHANGES: usize = 4294967295;
@@ -20,8 +18,8 @@ pub fn reading_number(first: &[u8]) -> u32
     ensures { result ≡ number_of (reading first.now) }
 {
     match picture::read(first) {
-        Reading::Read(_) => 0,
-        Reading::Refused(r) => r.number as u32,
+        Ok(_) => 0,
+        Err(r) => r.number as u32,
     }
 }
 
@@ -56,8 +54,8 @@ pub fn lower_number(number: u32, first: &[u8], c: Change, held: u8) -> u32
     ensures { result ≡ lower number (is_none (byte_named first.now c)) (is_another (byte_named first.now c) held c.old_byte) }
 {
     match byte_named(first, c) {
-        Found::Nothing => 37,
-        Found::At(_) => worst(number, held != c.old_byte),
+        None => 37,
+        Some(_) => worst(number, held != c.old_byte),
     }
 }
 

@@ -5,7 +5,6 @@ ghost use Rattle.changes.specs.Change.{part_bytes, part_start, byte_named};
 
 use crate::Change;
 use ids::PortNo;
-use least::Found;
 use picture::all_bytes;
 use registers::{edition_of, record_at, sizes_of, vectors_start};
 
@@ -44,16 +43,16 @@ fn part_start(first: &[u8], p: PortNo, part: u32) -> u64
 
 // The byte that a change names, of a picture that can have so many ports.
 #[tactic(auto, unfolding(crate::specs::Change::byte_named))]
-pub fn byte_named(first: &[u8], c: Change) -> Found
+pub fn byte_named(first: &[u8], c: Change) -> Option<u64>
     requires { count_of first.now ≤ 64 }
     ensures { result ≡ byte_named first.now c }
 {
     if lent::u16_at(first, 2) as u32 <= c.port {
-        return Found::Nothing;
+        return None;
     }
     let p = PortNo(c.port as u8);
     if part_bytes(first, p, c.part) <= c.at as u64 {
-        return Found::Nothing;
+        return None;
     }
-    Found::At(part_start(first, p, c.part) + c.at as u64)
+    Some(part_start(first, p, c.part) + c.at as u64)
 }

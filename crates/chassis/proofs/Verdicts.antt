@@ -11,8 +11,6 @@ use Rattle.ids.specs.declared.Space.TheVariants.{Ids, Addresses}
 use Rattle.ids.specs.declared.Target.{Target}
 use Rattle.ids.specs.declared.Target.TheVariants.{Id, Addr}
 use Rattle.ids.specs.Ids.{port_no}
-use Rattle.least.specs.declared.Found.{Found}
-use Rattle.least.specs.declared.Found.TheVariants.{At, Nothing}
 use Rattle.least.specs.Least.{first_in}
 use Rattle.least.proofs.Laws.{LeastAt as FirstAt, Least, of_range}
 use Rattle.chassis.specs.declared.Fault.{Fault}
@@ -29,14 +27,15 @@ use Rattle.chassis.proofs.Bools.{never_both_values}
 use Rattle.chassis.proofs.CheckLaws.{no_address_taken}
 use Rattle.chassis.proofs.LeastTarget.{least_target_is}
 use Rattle.chassis.proofs.Ports.{any_below_true}
+use Rattle.std.specs.Prelude.{Option, Some, None}
 
 -- where some port passes, the lowest does
 lowest_found : (c : Chassis) (test : ℕ → Bool) → any_below test c.tree.count ≡ true → Lowest test c.tree.count (lowest_port c test)
 lowest_found c test some = go (first_in test 0 c.tree.count) (of_range test 0 c.tree.count)
   where
-    go : (f : Found) → Least test 0 c.tree.count f → Lowest test c.tree.count (found f)
-    go (At p) a = record { below = a.below; passes = a.holds; first = λ q l. a.first.none q zero-le l }
-    go Nothing none =
+    go : (f : Option ℕ) → Least test 0 c.tree.count f → Lowest test c.tree.count (found f)
+    go (Some p) a = record { below = a.below; passes = a.holds; first = λ q l. a.first.none q zero-le l }
+    go None none =
         let one = (any_below_true test c.tree.count).0 some in
         never_both_values _ one.passes (none.none one.number zero-le one.below)
 
@@ -46,40 +45,40 @@ module _ (c : Chassis) (fault : Fault) where
   at_fault_lem t some = lowest_found c (at_fault fault c t) some
 
   -- the least of a space is the least of all where the space is that of IDs, or no ID is faulty
-  least_id : (n : ℕ) → least_target (faulty fault c) Ids ≡ At n
+  least_id : (n : ℕ) → least_target (faulty fault c) Ids ≡ Some n
       → LeastAt fault c (target_in Ids n) (lowest_port c (at_fault fault c (target_in Ids n)))
   least_id n e = record { in_range = least.below; passes = least.holds; first = first; port = at_fault_lem (target_in Ids n) least.holds }
     where
       least : FirstAt (λ (m : ℕ). faulty fault c (target_in Ids m)) 0 (2 ^ 16) n
-      least = (least_target_is (faulty fault c) Ids (At n)).0 e
+      least = (least_target_is (faulty fault c) Ids (Some n)).0 e
 
       first : (u : Target) → Earlier u (target_in Ids n) → faulty fault c u ≡ false
       first (Id m) l = least.first.none m.0 zero-le l
       first (Addr a) none = absurd none
 
-  least_address : (n : ℕ) → least_target (faulty fault c) Ids ≡ Nothing → least_target (faulty fault c) Addresses ≡ At n
+  least_address : (n : ℕ) → least_target (faulty fault c) Ids ≡ None → least_target (faulty fault c) Addresses ≡ Some n
       → LeastAt fault c (target_in Addresses n) (lowest_port c (at_fault fault c (target_in Addresses n)))
   least_address n none e =
       record { in_range = least.below; passes = least.holds; first = first; port = at_fault_lem (target_in Addresses n) least.holds }
     where
       least : FirstAt (λ (m : ℕ). faulty fault c (target_in Addresses m)) 0 (2 ^ 64) n
-      least = (least_target_is (faulty fault c) Addresses (At n)).0 e
+      least = (least_target_is (faulty fault c) Addresses (Some n)).0 e
 
       first : (u : Target) → Earlier u (target_in Addresses n) → faulty fault c u ≡ false
-      first (Id m) l = ((least_target_is (faulty fault c) Ids Nothing).0 none).none m.0 zero-le l
+      first (Id m) l = ((least_target_is (faulty fault c) Ids None).0 none).none m.0 zero-le l
       first (Addr a) l = least.first.none a zero-le l
 
-  none_with : least_target (faulty fault c) Ids ≡ Nothing → least_target (faulty fault c) Addresses ≡ Nothing → NoneWith fault c
-  none_with no-id no_address (Id rid) l = ((least_target_is (faulty fault c) Ids Nothing).0 no-id).none rid.0 zero-le l
-  none_with no-id no_address (Addr a) l = ((least_target_is (faulty fault c) Addresses Nothing).0 no_address).none a zero-le l
+  none_with : least_target (faulty fault c) Ids ≡ None → least_target (faulty fault c) Addresses ≡ None → NoneWith fault c
+  none_with no-id no_address (Id rid) l = ((least_target_is (faulty fault c) Ids None).0 no-id).none rid.0 zero-le l
+  none_with no-id no_address (Addr a) l = ((least_target_is (faulty fault c) Addresses None).0 no_address).none a zero-le l
 
 module _ (c : Chassis) where
   shared_at : (t : Target) → LeastAt Shared c t (first_of_pair c t) → Says c (verdict_at c Shared t)
   unfolding clashes_with
   shared_at t least = (least, lowest_found c (clash c t (first_of_pair c t).0) least.port.passes, refl, refl)
 
-  none_taken : least_target (faulty Taken c) Ids ≡ Nothing → NoneWith Taken c
-  none_taken no-id (Id rid) l = ((least_target_is (faulty Taken c) Ids Nothing).0 no-id).none rid.0 zero-le l
+  none_taken : least_target (faulty Taken c) Ids ≡ None → NoneWith Taken c
+  none_taken no-id (Id rid) l = ((least_target_is (faulty Taken c) Ids None).0 no-id).none rid.0 zero-le l
   none_taken no-id (Addr a) l = no_address_taken c a
 
   module _ (unshared : NoneWith Shared c) (unstrayed : NoneWith Stray c) where
@@ -88,16 +87,16 @@ module _ (c : Chassis) where
     of_each untaken Stray = unstrayed
     of_each untaken Taken = untaken
 
-    taken_at : (g : Found) → NoneLost c → least_target (faulty Taken c) Ids ≡ g → Says c (or_next (at_least c Taken Ids g) Clear)
+    taken_at : (g : Option ℕ) → NoneLost c → least_target (faulty Taken c) Ids ≡ g → Says c (or_next (at_least c Taken Ids g) Clear)
     unfolding or_next
-    taken_at (At n) kept e = (unshared, unstrayed, kept, least_id c Taken n e, refl)
-    taken_at Nothing kept e = (of_each (none_taken e), kept)
+    taken_at (Some n) kept e = (unshared, unstrayed, kept, least_id c Taken n e, refl)
+    taken_at None kept e = (of_each (none_taken e), kept)
 
-    lost_at_lem : (f g : Found) → Least (own_id_lost c) 0 c.tree.count f → least_target (faulty Taken c) Ids ≡ g
+    lost_at_lem : (f g : Option ℕ) → Least (own_id_lost c) 0 c.tree.count f → least_target (faulty Taken c) Ids ≡ g
         → Says c (or_next (lost_at f) (or_next (at_least c Taken Ids g) Clear))
     unfolding or_next
-    lost_at_lem (At p) g a e = (unshared, unstrayed, record { below = a.below; passes = a.holds; first = λ q l. a.first.none q zero-le l })
-    lost_at_lem Nothing g kept e = taken_at g (λ p l. kept.none p zero-le l) e
+    lost_at_lem (Some p) g a e = (unshared, unstrayed, record { below = a.below; passes = a.holds; first = λ q l. a.first.none q zero-le l })
+    lost_at_lem None g kept e = taken_at g (λ p l. kept.none p zero-le l) e
 
   -- the verdict says of the chassis what its row of the table says
   pub verdict_says : Says c (verdict_of c)
@@ -106,7 +105,7 @@ module _ (c : Chassis) where
       go (least_target (faulty Shared c) Ids) (least_target (faulty Shared c) Addresses) (least_target (faulty Stray c) Ids)
       (least_target (faulty Stray c) Addresses) refl refl refl refl
     where
-      go : (a b d e : Found) → least_target (faulty Shared c) Ids ≡ a → least_target (faulty Shared c) Addresses ≡ b
+      go : (a b d e : Option ℕ) → least_target (faulty Shared c) Ids ≡ a → least_target (faulty Shared c) Addresses ≡ b
           → least_target (faulty Stray c) Ids ≡ d → least_target (faulty Stray c) Addresses ≡ e
           → Says c
           (or_next (at_least c Shared Ids a)
@@ -115,11 +114,11 @@ module _ (c : Chassis) where
           (or_next (at_least c Stray Addresses e)
           (or_next (lost_at (first_in (own_id_lost c) 0 c.tree.count))
           (or_next (at_least c Taken Ids (least_target (faulty Taken c) Ids)) Clear))))))
-      go (At n) b d e ea eb ed ee = shared_at (target_in Ids n) (least_id c Shared n ea)
-      go Nothing (At n) d e ea eb ed ee = shared_at (target_in Addresses n) (least_address c Shared n ea eb)
-      go Nothing Nothing (At n) e ea eb ed ee = (none_with c Shared ea eb, least_id c Stray n ed, refl)
-      go Nothing Nothing Nothing (At n) ea eb ed ee = (none_with c Shared ea eb, least_address c Stray n ed ee, refl)
-      go Nothing Nothing Nothing Nothing ea eb ed ee =
+      go (Some n) b d e ea eb ed ee = shared_at (target_in Ids n) (least_id c Shared n ea)
+      go None (Some n) d e ea eb ed ee = shared_at (target_in Addresses n) (least_address c Shared n ea eb)
+      go None None (Some n) e ea eb ed ee = (none_with c Shared ea eb, least_id c Stray n ed, refl)
+      go None None None (Some n) ea eb ed ee = (none_with c Shared ea eb, least_address c Stray n ed ee, refl)
+      go None None None None ea eb ed ee =
           lost_at_lem (none_with c Shared ea eb) (none_with c Stray ed ee) (first_in (own_id_lost c) 0 c.tree.count) (least_target (faulty Taken c) Ids)
           (of_range (own_id_lost c) 0 c.tree.count) refl
 

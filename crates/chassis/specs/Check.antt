@@ -57,13 +57,13 @@ faulty fault c t = any_below (at_fault fault c t) c.tree.count
 unfoldable pub test_in : (Target → Bool) → Space → ℕ → Bool
 test_in test space n = test (target_in space n)
 
-abbrev pub least_target : (Target → Bool) → Space → Found
+abbrev pub least_target : (Target → Bool) → Space → Option ℕ
 least_target test space = first_in (test_in test space) 0 (space_size space)
 
 -- the lowest port that passes; 255 where none does
-abbrev pub found : Found → PortNo
-found (At p) = port_no p
-found Nothing = no_port
+abbrev pub found : Option ℕ → PortNo
+found (Some p) = port_no p
+found None = no_port
 
 abbrev pub lowest_port : Chassis → (ℕ → Bool) → PortNo
 lowest_port c test = found (first_in test 0 c.tree.count)
@@ -80,13 +80,13 @@ verdict_at c OfStray t = Stray t (hold_of c t (lowest_port c (strays_at c t)).0)
 verdict_at c OfTaken t = Taken t (hold_of c t (lowest_port c (taken_at c t)).0)
 
 -- what a row of the table finds, `Clear` where it finds nothing
-abbrev pub at_least : Chassis → Fault → Space → Found → Verdict
-at_least c fault space (At n) = verdict_at c fault (target_in space n)
-at_least c fault space Nothing = Clear
+abbrev pub at_least : Chassis → Fault → Space → Option ℕ → Verdict
+at_least c fault space (Some n) = verdict_at c fault (target_in space n)
+at_least c fault space None = Clear
 
-abbrev pub lost_at : Found → Verdict
-lost_at (At p) = Lost (port_no p)
-lost_at Nothing = Clear
+abbrev pub lost_at : Option ℕ → Verdict
+lost_at (Some p) = Lost (port_no p)
+lost_at None = Clear
 
 unfoldable pub row_of : Chassis → Row → Verdict
 row_of c (RowAt fault space) = at_least c fault space (least_target (faulty fault c) space)

@@ -2,7 +2,7 @@
 ghost use Rattle.std.specs.Prelude.{◌≡◌};
 ghost use Rattle.chassis.specs.Table.{by_target, finding_of};
 
-use crate::{Finding, Named, Shown, Verdict};
+use crate::{Finding, Named, Verdict};
 use ids::Target;
 
 // The number for an ID, or for an address.
@@ -22,27 +22,27 @@ pub fn finding_of(v: Verdict) -> Finding
     match v {
         Verdict::Clear => Finding {
             number: 0,
-            target: Shown::NoTarget,
+            target: None,
             ports: Named::NoPort,
         },
         Verdict::Shared(t, p, q) => Finding {
             number: by_target(t, 11, 12),
-            target: Shown::Least(t),
+            target: Some(t),
             ports: Named::Pair(p, q),
         },
         Verdict::Stray(t, p) => Finding {
             number: by_target(t, 13, 14),
-            target: Shown::Least(t),
+            target: Some(t),
             ports: Named::Holder(p),
         },
         Verdict::Lost(p) => Finding {
             number: 15,
-            target: Shown::NoTarget,
+            target: None,
             ports: Named::Port(p),
         },
         Verdict::Taken(t, p) => Finding {
             number: 18,
-            target: Shown::Least(t),
+            target: Some(t),
             ports: Named::Holder(p),
         },
     }

@@ -114,13 +114,6 @@ pub enum Verdict {
     Taken(Target, Hold),
 }
 
-// The least target that a number of the table shows, where it shows one.
-#[derive(Clone, Copy)]
-pub enum Shown {
-    NoTarget,
-    Least(Target),
-}
-
 // The ports that a number of the table names: none, one alone, or one or two by their hold on the target that it shows.
 #[derive(Clone, Copy)]
 pub enum Named {
@@ -134,6 +127,6 @@ pub enum Named {
 #[derive(Clone, Copy)]
 pub struct Finding {
     pub number: u8,
-    pub target: Shown,
+    pub target: Option<Target>,
     pub ports: Named,
 }

@@ -1,12 +1,11 @@
 // claims id|addr TARGET: who holds a target in the picture on standard input, and by what. TARGET is a number in hexadecimal.
 #![tactic(auto)]
 
-use arguments::Number;
 use std::env::Env;
 use std::io;
 
 // The number that argument i stands for: the kind of target, then the target.
-fn argument(rt: &impl Env, i: usize) -> Number {
+fn argument(rt: &impl Env, i: usize) -> Option<u64> {
     let mut word = [0u8; 32];
     let n = inputs::word(rt, i, &mut word);
     if i == 1 {
@@ -24,10 +23,10 @@ fn main(rt: HostRuntime) -> io::Result<()> {
     if !inputs::has_word(&rt, 2) | inputs::has_word(&rt, 3) {
         return print_usage(&rt);
     }
-    let Number::Is(kind) = argument(&rt, 1) else {
+    let Some(kind) = argument(&rt, 1) else {
         return print_usage(&rt);
     };
-    let Number::Is(target) = argument(&rt, 2) else {
+    let Some(target) = argument(&rt, 2) else {
         return print_usage(&rt);
     };
     let mut buffer = [0u8; 65537];

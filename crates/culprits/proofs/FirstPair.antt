@@ -5,7 +5,6 @@ use mathlib.Core.Path.{◌≡◌, sym, ◌∙◌}
 use native.Mathlib.Decide.{dec_lt}
 use native.Mathlib.Omega.{arith}
 use Rattle.ids.specs.declared.Target.{Target}
-use Rattle.least.specs.declared.Found.TheVariants.{At}
 use Rattle.least.specs.Least.{first_in}
 use Rattle.least.proofs.Laws.{NoneIn, at_is}
 use Rattle.ids.specs.Ids.{port_no}
@@ -14,6 +13,7 @@ use Rattle.chassis.specs.Check.{clash, clashes_with, faulty}
 use Rattle.chassis.specs.declared.Fault.TheVariants.{Shared}
 use Rattle.chassis.proofs.Ports.{SomeBelow, any_below_true, any_below_at, any_below_false}
 use Rattle.culprits.specs.Culprits.{pair_at}
+use Rattle.std.specs.Prelude.{Some}
 
 module _ (c : Chassis) (t : Target) (p : ℕ) where
   -- port p was tried with all
@@ -42,7 +42,7 @@ module _ (c : Chassis) (t : Target) {p : ℕ} (passed : NoneIn (clashes_with c t
   module _ {q : ℕ} (none : NoneIn (clash c t p) 0 q) where
     -- port p was tried with the ports below q, and clashes with q
     module _ (below : q < c.tree.count) (clashing : clash c t p q ≡ true) where
-      first_is : p < c.tree.count → At p ≡ first_in (clashes_with c t) 0 c.tree.count
+      first_is : p < c.tree.count → Some p ≡ first_in (clashes_with c t) 0 c.tree.count
       first_is l =
           at_is
           (record {
@@ -52,7 +52,7 @@ module _ (c : Chassis) (t : Target) {p : ℕ} (passed : NoneIn (clashes_with c t
             first = passed;
           })
 
-      second_is : At q ≡ first_in (clash c t p) 0 c.tree.count
+      second_is : Some q ≡ first_in (clash c t p) 0 c.tree.count
       second_is = at_is (record { from = zero-le; below = below; holds = clashing; first = none })
 
       pub pair_here : p < c.tree.count → record { first = port_no p; second = port_no q } ≡ pair_at c t

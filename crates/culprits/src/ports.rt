@@ -10,7 +10,6 @@ use crate::taken::taken_at;
 use chassis::{Conversion, ROOT_PORT};
 use claims::{claims, conversion, holds};
 use ids::{PortNo, Target};
-use least::Found;
 use registers::{kind_at, own_id_at, parent_at};
 
 // What may be wrong with a port by itself.
@@ -65,18 +64,18 @@ fn has_fault<'a>(s: &'a [u8], patch: &'a [u8], fault: PortFault, p: PortNo) -> b
 
 // The lowest of n ports that has a fault.
 #[tactic(auto, using(least::proofs::Laws::NoneIn, least::proofs::Laws::at_is, least::proofs::Laws::none_empty, least::proofs::Laws::none_is, least::proofs::Laws::none_more, least::proofs::Laws::none_part))]
-pub fn lowest<'a>(s: &'a [u8], patch: &'a [u8], n: u8, fault: PortFault) -> Found
+pub fn lowest<'a>(s: &'a [u8], patch: &'a [u8], n: u8, fault: PortFault) -> Option<u64>
     requires { n ≡ count_of s.now }
     ensures { result ≡ first_in (has_fault fault (chassis_over s.now patch.now)) 0 (count_of s.now) }
 {
     let mut p: u8 = 0;
     while p < n {
         if has_fault(s, patch, fault, PortNo(p)) {
-            return Found::At(p as u64);
+            return Some(p as u64);
         }
         p += 1;
     }
-    Found::Nothing
+    None
 }
 
 // The same by its number, 255 where none has it.
@@ -86,7 +85,7 @@ pub fn lowest_port<'a>(s: &'a [u8], patch: &'a [u8], n: u8, fault: PortFault) ->
     ensures { result ≡ lowest_port (chassis_over s.now patch.now) (has_fault fault (chassis_over s.now patch.now)) }
 {
     match lowest(s, patch, n, fault) {
-        Found::At(p) => PortNo(p as u8),
-        Found::Nothing => PortNo::NONE,
+        Some(p) => PortNo(p as u8),
+        None => PortNo::NONE,
     }
 }

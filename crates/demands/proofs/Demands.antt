@@ -32,24 +32,16 @@ use Rattle.paths.specs.declared.Path.{Path}
 use Rattle.ids.specs.Ids.{no_port}
 use Rattle.paths.specs.Paths.{path_of}
 use Rattle.picture.specs.declared.Header.{Header}
-use Rattle.picture.specs.declared.Reading.{Reading}
-use Rattle.picture.specs.declared.Reading.TheVariants.{Read, Refused as NotRead}
 use Rattle.picture.specs.Reading.{reading}
 use Rattle.trees.specs.Trees.{tree_of}
 use Rattle.claims.specs.Claims.{chassis_of}
 use Rattle.routes.specs.declared.Walked.{Walked}
-use Rattle.judge.specs.declared.CheckAnswer.{CheckAnswer}
-use Rattle.judge.specs.declared.CheckAnswer.TheVariants.{Judged}
-use Rattle.judge.specs.declared.WalkAnswer.{WalkAnswer}
-use Rattle.judge.specs.declared.Outcome.TheVariants.{Ended}
-use Rattle.judge.specs.declared.ClaimAnswer.TheVariants.{Claimed}
-use Rattle.judge.specs.declared.ConvertAnswer.TheVariants.{Converted}
 use Rattle.judge.specs.Checking.{check_of, check_answer, check_finding, check_number}
 use Rattle.judge.specs.Asking.{target_asked}
 use Rattle.judge.specs.Claiming.{claim_asked_wrongly, claim_of, claim_answer}
 use Rattle.judge.specs.Converting.{convert_asked_wrongly, convert_of, convert_answer}
 use Rattle.judge.specs.Refusals.{number16, refusal_finding}
-use Rattle.judge.specs.Walking.{packet_of, asked_wrongly, refused_walk, ended_walk, AskedGives, ReadGives, WalkGives}
+use Rattle.judge.specs.Walking.{packet_of, asked_wrongly, AskedGives, ReadGives, WalkGives}
 use Rattle.judge.specs.Trying.{trial_check, TriedGives, TrialGives}
 use Rattle.judge.proofs.Trials.{trial_only}
 use Rattle.judge.proofs.Walks.{walk_only, within_start}
@@ -64,6 +56,8 @@ use Rattle.fiswalend.proofs.Forty.{under_40}
 use Rattle.fiswalend.proofs.WalkCalls.{leaves_only}
 use Rattle.demands.specs.Demands.{Demand1, OneBuffer, Demand1Buffer, Names, WalksIn, Demand2, Demand3, Overlap, FailsExactly, OverlapExactly}
 use Rattle.demands.proofs.Numbers.{reading_in_table, check_numbered, claim_numbered, convert_numbered, walk_numbered, never_zero}
+use Rattle.std.specs.Prelude.{Result, Ok, Err}
+use Rattle.picture.specs.declared.Refusal.{Refusal}
 
 pub demand_1 : (s : List ℕ) → Demand1 s
 demand_1 s =
@@ -82,8 +76,8 @@ names path crossed short is =
     whole = simp (length-append, length-replicate) (omega arith)
 
 module _ (s : List ℕ) where
-  claims_it : (h : Header) → reading s ≡ Read h → (port kind target : ℕ) → claim_asked_wrongly h.count port kind target ≡ false
-      → claim_answer s port kind target ≡ Claimed (hold_of (chassis_of s) (target_asked kind target) port)
+  claims_it : (h : Header) → reading s ≡ Ok h → (port kind target : ℕ) → claim_asked_wrongly h.count port kind target ≡ false
+      → claim_answer s port kind target ≡ Ok (hold_of (chassis_of s) (target_asked kind target) port)
   unfolding claim_of
   claims_it h is port kind target right = rw (is, right)
 
@@ -91,56 +85,46 @@ module _ (s : List ℕ) where
   unfolding holds is_held
   held_it port t = refl
 
-  converts_it : (h : Header) → reading s ≡ Read h → (port target : ℕ) → convert_asked_wrongly h.count port target ≡ false
-      → convert_answer s port target ≡ Converted ((chassis_of s).conversion port (Id (record { 0 = target })))
+  converts_it : (h : Header) → reading s ≡ Ok h → (port target : ℕ) → convert_asked_wrongly h.count port target ≡ false
+      → convert_answer s port target ≡ Ok ((chassis_of s).conversion port (Id (record { 0 = target })))
   unfolding convert_of
   converts_it h is port target right = rw (is, right)
 
 module _ (s : List ℕ) (kind start target : ℕ) where
   -- the walk's answer: a refusal, or where the rules lead
-  answered : (a : WalkAnswer) × WalkGives s kind start target a
+  answered : (a : Result Walked Refusal) × WalkGives s kind start target a
   answered = read (reading s) refl
     where
-      asked : (h : Header) → reading s ≡ Read h → (wrong : Bool) → asked_wrongly (tree_of s) kind start target ≡ wrong
-          → (a : WalkAnswer) × AskedGives wrong (chassis_of s) kind start target a
-      asked h is true wrong = (refused_walk number16, refl)
+      asked : (h : Header) → reading s ≡ Ok h → (wrong : Bool) → asked_wrongly (tree_of s) kind start target ≡ wrong
+          → (a : Result Walked Refusal) × AskedGives wrong (chassis_of s) kind start target a
+      asked h is true wrong = (Err number16, refl)
       asked h is false right =
           let w = walk_exists (chassis_of s) (packet_of kind target) (sane_read s h is) (starts_at (chassis_of s) (packet_of kind target) start) (within_start (chassis_of s) (sane_read s h is) kind start target right (packet_of kind target) refl) in
           let walked : Walked = record { path = path_of w.path; end = w.end } in
-          (ended_walk walked, (walked, record { crossed = w.path; walk = w.walk; named = refl }, refl))
+          (Ok walked, (walked, record { crossed = w.path; walk = w.walk; named = refl }, refl))
 
-      read : (got : Reading) → reading s ≡ got → (a : WalkAnswer) × ReadGives got s kind start target a
-      read (NotRead r) is = (refused_walk r, refl)
-      read (Read h) is = asked h is (asked_wrongly (tree_of s) kind start target) refl
+      read : (got : Result Header Refusal) → reading s ≡ got → (a : Result Walked Refusal) × ReadGives got s kind start target a
+      read (Err r) is = (Err r, refl)
+      read (Ok h) is = asked h is (asked_wrongly (tree_of s) kind start target) refl
 
-  Named : WalkAnswer → End → Type 0
-  Named a e = (crossed : List PortNo) × Walk (chassis_of s) (packet_of kind target) (starts_at (chassis_of s) (packet_of kind target) start) crossed e × Names a.path crossed
+  Named : Walked → Type 0
+  Named w = (crossed : List PortNo) × Walk (chassis_of s) (packet_of kind target) (starts_at (chassis_of s) (packet_of kind target) start) crossed w.end × Names w.path crossed
 
-  asked_named : (a : WalkAnswer) (e : End) (h : Header) → reading s ≡ Read h → (wrong : Bool) → asked_wrongly (tree_of s) kind start target ≡ wrong
-      → AskedGives wrong (chassis_of s) kind start target a → a.outcome ≡ Ended e → Named a e
-  unfolding refused_walk ended_walk Named
-  asked_named a e h is true wrong gives ended =
-      let told = ap (λ (x : WalkAnswer). x.outcome) gives in
-      impossible (cc)
-  asked_named a e h is false right given ended =
-      let w = given.0 in
+  asked_named : (w : Walked) (h : Header) → reading s ≡ Ok h → (wrong : Bool) → asked_wrongly (tree_of s) kind start target ≡ wrong
+      → AskedGives wrong (chassis_of s) kind start target (Ok w) → Named w
+  unfolding Named
+  asked_named w h is true wrong gives = impossible (cc)
+  asked_named w h is false right given =
       let arrives = given.1 in
       let gives = given.2 in
-      let told = ap (λ (x : WalkAnswer). x.outcome) gives in
-      let same : w.end ≡ e = cc in
+      let same : given.0 ≡ w = cc in
       let within = within_start (chassis_of s) (sane_read s h is) kind start target right (packet_of kind target) refl in
-      let short = le_trans (walk_short (chassis_of s) (packet_of kind target) (sane_read s h is) within arrives.walk) (left_most (chassis_of s) (starts_at (chassis_of s) (packet_of kind target) start)) in (
-        arrives.crossed,
-        subst (λ (x : End). Walk (chassis_of s) (packet_of kind target) (starts_at (chassis_of s) (packet_of kind target) start) arrives.crossed x) same arrives.walk,
-        names a.path arrives.crossed short (ap (λ (x : WalkAnswer). x.path) gives ∙ arrives.named),
-      )
+      let short = le_trans (walk_short (chassis_of s) (packet_of kind target) (sane_read s h is) within arrives.walk) (left_most (chassis_of s) (starts_at (chassis_of s) (packet_of kind target) start)) in
+      subst Named same (arrives.crossed, arrives.walk, names given.0.path arrives.crossed short arrives.named)
 
-  read_named : (a : WalkAnswer) (e : End) (got : Reading) → reading s ≡ got → ReadGives got s kind start target a → a.outcome ≡ Ended e → Named a e
-  unfolding refused_walk
-  read_named a e (NotRead r) is gives ended =
-      let told = ap (λ (x : WalkAnswer). x.outcome) gives in
-      impossible (cc)
-  read_named a e (Read h) is gives ended = asked_named a e h is (asked_wrongly (tree_of s) kind start target) refl gives ended
+  read_named : (w : Walked) (got : Result Header Refusal) → reading s ≡ got → ReadGives got s kind start target (Ok w) → Named w
+  read_named w (Err r) is gives = impossible (cc)
+  read_named w (Ok h) is gives = asked_named w h is (asked_wrongly (tree_of s) kind start target) refl gives
 
 pub walks_in : (s : List ℕ) → WalksIn (chassis_of s) (WalkGives s)
 unfolding Named
@@ -148,12 +132,12 @@ walks_in s =
     record {
       answers = answered s;
       only = walk_only s;
-      named = λ kind start target a e gives ended. read_named s kind start target a e (reading s) refl gives ended;
+      named = λ kind start target w gives. read_named s kind start target w (reading s) refl gives;
     }
 
 -- a buffer under 40 bytes, and one that the answer fits in
 module _ (before : List ℕ) where
-  one_check : (a : CheckAnswer) → OneBuffer before (CheckCall a before)
+  one_check : (a : Result Verdict Refusal) → OneBuffer before (CheckCall a before)
   unfolding returned written
   one_check a =
       record {
@@ -162,7 +146,7 @@ module _ (before : List ℕ) where
         only = λ m n x y v w. (v.0 ∙ sym w.0, v.1 ∙ sym w.1);
       }
 
-  one_walk : (Gives : WalkAnswer → Type 0) → ((a b : WalkAnswer) → Gives a → Gives b → a ≡ b) → (a : WalkAnswer) → Gives a
+  one_walk : (Gives : Result Walked Refusal → Type 0) → ((a b : Result Walked Refusal) → Gives a → Gives b → a ≡ b) → (a : Result Walked Refusal) → Gives a
       → OneBuffer before (WalkLeaves (too_short before) Gives before)
   one_walk Gives one a gives =
       record {
@@ -174,18 +158,18 @@ module _ (before : List ℕ) where
       called : (short : Bool) → too_short before ≡ short → (number : ℕ) × (after : List ℕ) × WalkLeaves (too_short before) Gives before number after
       called true short = (17, before, subst (λ (b : Bool). WalkLeaves b Gives before 17 before) (sym short) (refl, refl))
       called false long = (
-        outcome_number a.outcome,
+        outcome_number a,
         walk_bytes a ++ drop 40 before,
-        subst (λ (b : Bool). WalkLeaves b Gives before (outcome_number a.outcome) (walk_bytes a ++ drop 40 before)) (sym long)
+        subst (λ (b : Bool). WalkLeaves b Gives before (outcome_number a) (walk_bytes a ++ drop 40 before)) (sym long)
             (a, gives, refl, refl),
       )
 
-pub tried : (s patch : List ℕ) (kind start target : ℕ) → (a : WalkAnswer) × TrialGives s patch kind start target a
+pub tried : (s patch : List ℕ) (kind start target : ℕ) → (a : Result Walked Refusal) × TrialGives s patch kind start target a
 tried s patch kind start target = go (reading_with s patch)
   where
-    go : (got : Reading) → (a : WalkAnswer) × TriedGives got (patched s patch) kind start target a
-    go (NotRead r) = (refused_walk r, refl)
-    go (Read h) = answered (patched s patch) kind start target
+    go : (got : Result Header Refusal) → (a : Result Walked Refusal) × TriedGives got (patched s patch) kind start target a
+    go (Err r) = (Err r, refl)
+    go (Ok h) = answered (patched s patch) kind start target
 
 pub demand_1_buffer : (s before : List ℕ) → Demand1Buffer s before
 demand_1_buffer s before =
@@ -214,13 +198,13 @@ clear_only (Lost p) e = absurd (omega arith)
 clear_only (Taken t p) e = absurd (omega arith)
 
 -- a picture that passes reads, and nothing is at fault in it
-pub passed_clear : (s : List ℕ) → check_number (check_answer s) ≡ 0 → (h : Header) × (reading s ≡ Read h) × Says (chassis_of s) Clear
+pub passed_clear : (s : List ℕ) → check_number (check_answer s) ≡ 0 → (h : Header) × (reading s ≡ Ok h) × Says (chassis_of s) Clear
 unfolding check_of check_finding refusal_finding
 passed_clear s passed = go (reading s) refl passed
   where
-    go : (got : Reading) → reading s ≡ got → (check_finding (check_of got s)).number ≡ 0 → (h : Header) × (reading s ≡ Read h) × Says (chassis_of s) Clear
-    go (NotRead r) is none = absurd (never_zero s r is none)
-    go (Read h) is none =
+    go : (got : Result Header Refusal) → reading s ≡ got → (check_finding (check_of got s)).number ≡ 0 → (h : Header) × (reading s ≡ Ok h) × Says (chassis_of s) Clear
+    go (Err r) is none = absurd (never_zero s r is none)
+    go (Ok h) is none =
         let clear = clear_only (verdict_of (chassis_of s)) none in
         (h, is, subst (Says (chassis_of s)) clear (verdict_says (chassis_of s)))
 
@@ -231,7 +215,7 @@ demand_3 s passed t range =
     (record { unshared = clear.2.0 Faulty-as-Shared t range; unstrayed = clear.2.0 Faulty-as-Stray t range })
 
 -- the answer for a picture that reads is the verdict of its chassis
-pub judged : (s : List ℕ) (h : Header) → reading s ≡ Read h → check_answer s ≡ Judged (verdict_of (chassis_of s))
+pub judged : (s : List ℕ) (h : Header) → reading s ≡ Ok h → check_answer s ≡ Ok (verdict_of (chassis_of s))
 unfolding check_of
 judged s h is = rw is
 
@@ -262,8 +246,8 @@ module _ (c : Chassis) where
   overlap_given o (Taken t p) says = unseen o says.0
 
 -- a check that gives the verdict of a chassis where the lent bytes read
-pub fails_exactly : (got : Reading) (a : CheckAnswer) (c : Chassis) → ((h : Header) → got ≡ Read h → a ≡ Judged (verdict_of c))
-    → ((v : Verdict) → a ≡ Judged v → verdict_of c ≡ v) → FailsExactly got a c
+pub fails_exactly : (got : Result Header Refusal) (a : Result Verdict Refusal) (c : Chassis) → ((h : Header) → got ≡ Ok h → a ≡ Ok (verdict_of c))
+    → ((v : Verdict) → a ≡ Ok v → verdict_of c ≡ v) → FailsExactly got a c
 unfolding check_finding
 fails_exactly got a c judges same =
     record {
@@ -274,30 +258,30 @@ fails_exactly got a c judges same =
       shown = λ v e. subst (Says c) (same v e) (verdict_says c);
     }
 
-pub judged_only : (s : List ℕ) (v : Verdict) → check_answer s ≡ Judged v → verdict_of (chassis_of s) ≡ v
+pub judged_only : (s : List ℕ) (v : Verdict) → check_answer s ≡ Ok v → verdict_of (chassis_of s) ≡ v
 unfolding check_of
 judged_only s v = go (reading s)
   where
-    go : (got : Reading) → check_of got s ≡ Judged v → verdict_of (chassis_of s) ≡ v
-    go (NotRead r) e = impossible (cc)
-    go (Read h) e = cc
+    go : (got : Result Header Refusal) → check_of got s ≡ Ok v → verdict_of (chassis_of s) ≡ v
+    go (Err r) e = impossible (cc)
+    go (Ok h) e = cc
 
 pub overlap_exactly : (s : List ℕ) → OverlapExactly s
 overlap_exactly s = fails_exactly (reading s) (check_answer s) (chassis_of s) (judged s) (judged_only s)
 
 -- each port that 11 to 14 name holds the target, a port that is a pair with itself owns it and claims it, and one that 18 names claims it and does not own it
 module _ (s : List ℕ) (t : Target) where
-  pub pair_named : (h k : Hold) → check_answer s ≡ Judged (Shared t h k) → (is_held h ≡ true) × (is_held k ≡ true)
+  pub pair_named : (h k : Hold) → check_answer s ≡ Ok (Shared t h k) → (is_held h ≡ true) × (is_held k ≡ true)
   pair_named h k is = pair_held (chassis_of s) (λ p u. refl) t h k ((overlap_exactly s).shown (Shared t h k) is)
 
-  pub itself_named : (h k : Hold) → check_answer s ≡ Judged (Shared t h k) → h.port.0 ≡ k.port.0
+  pub itself_named : (h k : Hold) → check_answer s ≡ Ok (Shared t h k) → h.port.0 ≡ k.port.0
       → (h.own ≡ true) × (at_least_one h.decoders ≡ true)
   itself_named h k is same = itself_held (chassis_of s) (λ p u. refl) t h k ((overlap_exactly s).shown (Shared t h k) is) same
 
-  pub stray_named : (h : Hold) → check_answer s ≡ Judged (Stray t h) → is_held h ≡ true
+  pub stray_named : (h : Hold) → check_answer s ≡ Ok (Stray t h) → is_held h ≡ true
   stray_named h is = stray_held (chassis_of s) (λ p u. refl) t h ((overlap_exactly s).shown (Stray t h) is)
 
-  pub taken_named : (h : Hold) → check_answer s ≡ Judged (Taken t h) → (h.own ≡ false) × (at_least_one h.decoders ≡ true)
+  pub taken_named : (h : Hold) → check_answer s ≡ Ok (Taken t h) → (h.own ≡ false) × (at_least_one h.decoders ≡ true)
   taken_named h is =
       let says = (overlap_exactly s).shown (Taken t h) is in
       (taken_not_own (chassis_of s) (λ p u. refl) t h says, taken_held (chassis_of s) (λ p u. refl) t h says)

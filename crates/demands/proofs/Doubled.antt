@@ -8,7 +8,6 @@ use borrow.Author.Tests.{lt-leb}
 use Rattle.ids.specs.declared.Target.TheVariants.{Id}
 use Rattle.ids.specs.declared.Space.TheVariants.{Ids}
 use Rattle.ids.specs.Ids.{bus_of, port_no}
-use Rattle.least.specs.declared.Found.TheVariants.{At}
 use Rattle.least.specs.Least.{first_of, first_in}
 use Rattle.lent.specs.Lent.{u16_at, u32_at}
 use Rattle.chassis.specs.declared.Hold.{Hold}
@@ -21,13 +20,13 @@ use Rattle.chassis.proofs.LeastTarget.{least_target_is}
 use Rattle.registers.specs.Record.{bridge_at, fpb_at, port_at, record_at}
 use Rattle.claims.specs.Decoders.{bus_claims, vector_claims, id_decoders}
 use Rattle.claims.specs.Claims.{chassis_of}
-use Rattle.judge.specs.declared.CheckAnswer.TheVariants.{Judged}
 use Rattle.judge.specs.Checking.{check_of, check_answer, check_finding, check_number}
 use Rattle.demands.specs.Demands.{Overlap}
 use Rattle.demands.specs.Worked.{zeros, u16, u32, header_in, record_of, switch_with, doubled}
 use Rattle.demands.proofs.Demands.{overlap_exactly}
 use Rattle.demands.proofs.Tests.{either_or}
 use Rattle.demands.proofs.FourPorts.{four_ports, reads, id, unshared_where}
+use Rattle.std.specs.Prelude.{Some, Ok}
 
 abbrev c : Chassis
 c = chassis_of doubled
@@ -50,9 +49,9 @@ both_hold : faulty Faulty-as-Shared c (id 0x0300) ≡ true
 unfolding zeros u16 u32 header_in record_of switch_with u16_at u32_at bridge_at fpb_at port_at record_at bus_claims vector_claims id_decoders at_least_one holds any_below clash clashes_with faulty
 both_hold = refl
 
-least : least_target (faulty Faulty-as-Shared c) Ids ≡ At 0x0300
+least : least_target (faulty Faulty-as-Shared c) Ids ≡ Some 0x0300
 least =
-    (least_target_is (faulty Faulty-as-Shared c) Ids (At 0x0300)).1
+    (least_target_is (faulty Faulty-as-Shared c) Ids (Some 0x0300)).1
     (record { from = zero-le; below = omega arith; holds = both_hold; first = record { none = λ n l below. unshared n below } })
 
 pair : (first_of_pair c (id 0x0300) ≡ port_no 2) × (lowest_port c (clash c (id 0x0300) 2) ≡ port_no 3)
@@ -73,7 +72,7 @@ unfolding zeros u16 u32 header_in record_of switch_with u16_at u32_at bridge_at 
 by_bus_lem = (refl, refl)
 
 -- the least such target is shown, with its ports and by what they hold it
-pub doubled_shown : check_answer doubled ≡ Judged (Shared (Id (record { 0 = 0x0300 })) (by_bus 2) (by_bus 3))
+pub doubled_shown : check_answer doubled ≡ Ok (Shared (Id (record { 0 = 0x0300 })) (by_bus 2) (by_bus 3))
 unfolding check_of verdict_of row_of or_next
 doubled_shown = rw (reads 3) (rw (least, pair.0, pair.1, by_bus_lem.0, by_bus_lem.1))
 

@@ -16,18 +16,18 @@ use Rattle.registers.specs.Vectors.{settings_of, vector_bytes}
 use Rattle.picture.specs.Header.{header_of, length_wrong, edition_wrong, count_wrong, total_wrong, offset_wrong}
 use Rattle.picture.specs.Layout.{running_offset, place_wrong, end_wrong}
 use Rattle.picture.specs.declared.Header.{Header}
-use Rattle.picture.specs.declared.Reading.TheVariants.{Read}
 use Rattle.picture.specs.Reading.{breaks, misplaced_in, ports_reading, reading}
 use Rattle.claims.specs.Decoders.{bus_claims, vector_claims, id_decoders}
 use Rattle.claims.specs.Claims.{chassis_of}
 use Rattle.demands.specs.Worked.{zeros, u16, u32, header_in, record_of, switch_with}
 use Rattle.demands.proofs.Tests.{just}
+use Rattle.std.specs.Prelude.{Ok}
 
 -- four ports, and no vectors
 abbrev pub four_ports : Header
 four_ports = record { edition = 1; count = 4; total = 240; records_at = 16; vectors_at = 240 }
 
-pub reads : (bus : ℕ) → reading (switch_with bus) ≡ Read four_ports
+pub reads : (bus : ℕ) → reading (switch_with bus) ≡ Ok four_ports
 unfolding zeros u16 u32 header_in record_of switch_with reading ports_reading misplaced_in breaks running_offset place_wrong end_wrong header_of length_wrong edition_wrong count_wrong total_wrong offset_wrong size_reserved granularity_allowed mechanism_wrong memory_bits_wrong settings_wrong with_ari start_broken start_wrong settings_of vector_bytes bridge_at fpb_at port_at record_at any_below upstream_broken downstream_broken tree_broken one_above above chain_too_long first_of first_in u16_at u32_at
 reads bus = refl
 

@@ -13,7 +13,6 @@ use lib.Seq.{take_at, drop_at}
 use Rattle.chassis.proofs.Bools.{and_true_parts}
 use Rattle.chassis.specs.Tree.{any_below}
 use Rattle.least.proofs.Laws.{impossible}
-use Rattle.least.specs.declared.Found.TheVariants.{At}
 use Rattle.picture.specs.Reading.{reading, number_of}
 use Rattle.changes.specs.Change.{byte_named}
 use Rattle.changes.specs.declared.Change.{Change}
@@ -27,6 +26,7 @@ use Rattle.changes.proofs.Reading.{reads_zero}
 use Rattle.demands.specs.Demands.{one_of, of_reading}
 use Rattle.demands.specs.History.{HistoryNumbers, HistoryAdded, HistoryWoundBack, HistoryRefused, HistoryReadBack, HistoryNamed}
 use Rattle.demands.proofs.Numbers.{reading_in_table}
+use Rattle.std.specs.Prelude.{Some}
 
 -- one of a list is one of a longer one
 one_of_more : (xs ys : List ℕ) (n : ℕ) → one_of xs n ≡ true → one_of (xs ++ ys) n ≡ true
@@ -109,7 +109,7 @@ history_named first z =
       once = λ c d x is. (one_place c d x is, one_byte c d x is);
     }
   where
-    one_place : (c d : Change) (x : ℕ) → byte_named first c ≡ At x → byte_named first d ≡ At x → (d.port ≡ c.port) × (d.part ≡ c.part) × (d.at ≡ c.at)
+    one_place : (c d : Change) (x : ℕ) → byte_named first c ≡ Some x → byte_named first d ≡ Some x → (d.port ≡ c.port) × (d.part ≡ c.part) × (d.at ≡ c.at)
     one_place c d x is e =
         let sound = reads_zero first z in
         let same = same_place first sound.header sound.all d c x (named first d x e) (named first c x is) in
@@ -117,5 +117,5 @@ history_named first z =
         let two = and_true_parts (eqb d.port c.port) (eqb d.part c.part) both.0 in
         (eqb-true _ _ two.0, eqb-true _ _ two.1, eqb-true _ _ both.1)
 
-    one_byte : (c d : Change) (x : ℕ) → byte_named first c ≡ At x → (d.port ≡ c.port) × (d.part ≡ c.part) × (d.at ≡ c.at) → byte_named first d ≡ At x
+    one_byte : (c d : Change) (x : ℕ) → byte_named first c ≡ Some x → (d.port ≡ c.port) × (d.part ≡ c.part) × (d.at ≡ c.at) → byte_named first d ≡ Some x
     one_byte c d x is e = same_named first d c (rw (eq-eqb _ _ e.0, eq-eqb _ _ e.1, eq-eqb _ _ e.2)) ∙ is

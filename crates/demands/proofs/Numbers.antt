@@ -8,8 +8,6 @@ use lib.ListN.{length}
 use lib.Dec.{eqb, ltb}
 use Rattle.least.proofs.Laws.{impossible}
 use Rattle.ids.specs.declared.Target.TheVariants.{Id, Addr}
-use Rattle.least.specs.declared.Found.{Found}
-use Rattle.least.specs.declared.Found.TheVariants.{At, Nothing}
 use Rattle.least.specs.Least.{first_in}
 use Rattle.chassis.specs.declared.Verdict.{Verdict}
 use Rattle.chassis.specs.declared.Verdict.TheVariants.{Clear, Shared, Stray, Lost, Taken}
@@ -17,26 +15,25 @@ use Rattle.chassis.specs.Check.{verdict_of}
 use Rattle.chassis.specs.Table.{finding_of}
 use Rattle.trees.specs.Trees.{count_of}
 use Rattle.picture.specs.declared.Header.{Header}
-use Rattle.picture.specs.declared.Reading.{Reading}
-use Rattle.picture.specs.declared.Reading.TheVariants.{Read, Refused}
 use Rattle.picture.specs.declared.Refusal.{Refusal}
 use Rattle.picture.specs.declared.Rule.TheVariants.{Tree, Chain, Settings, Start}
 use Rattle.picture.specs.Header.{header_of, length_wrong, edition_wrong, count_wrong, total_wrong, offset_wrong}
 use Rattle.picture.specs.Reading.{breaks, misplaced_in, refused_if, refused_at, ports_reading, reading, number_of}
 use Rattle.claims.specs.Claims.{chassis_of}
-use Rattle.judge.specs.declared.WalkAnswer.{WalkAnswer}
 use Rattle.judge.specs.Checking.{check_of, check_answer, check_finding, check_number}
 use Rattle.judge.specs.Claiming.{claim_asked_wrongly, claim_of, claim_answer, claim_number}
 use Rattle.judge.specs.Converting.{convert_asked_wrongly, convert_of, convert_answer, convert_number}
 use Rattle.judge.specs.Ends.{outcome_number}
 use Rattle.judge.specs.Refusals.{refusal_finding}
-use Rattle.judge.specs.Walking.{asked_wrongly, refused_walk, ended_walk, AskedGives, ReadGives, WalkGives}
+use Rattle.judge.specs.Walking.{asked_wrongly, AskedGives, ReadGives, WalkGives}
 use Rattle.registers.specs.declared.Mechanism.{Mechanism}
 use Rattle.patches.specs.Patch.{header_misfits, ports_misplaced, vectors_misplaced}
 use Rattle.patches.specs.Patched.{patched}
 use Rattle.patches.specs.Reading.{patch_reading, reading_with}
 use Rattle.judge.specs.Trying.{tried_check, trial_check, TriedGives, TrialGives, tried_part, trial_part, part_number}
 use Rattle.demands.specs.Demands.{one_of, of_reading, of_check, of_asking, of_patch}
+use Rattle.std.specs.Prelude.{Option, Some, None, Result, Ok, Err}
+use Rattle.routes.specs.declared.Walked.{Walked}
 
 -- a number of one list is one of a longer list
 pub in_more : (xs ys : List ℕ) (n : ℕ) → one_of xs n ≡ true → one_of (xs ++ ys) n ≡ true
@@ -51,17 +48,17 @@ in_more (x ∷ xs) ys n e = go (eqb n x) (in_more xs ys n) e
 abbrev refusals : List ℕ
 refusals = 1 ∷ 2 ∷ 3 ∷ 4 ∷ 5 ∷ 6 ∷ 7 ∷ 8 ∷ 9 ∷ 10 ∷ []
 
-abbrev Numbered : Reading → Type 0
-Numbered (Read h) = Unit {0}
-Numbered (Refused r) = one_of refusals r.number ≡ true
+abbrev Numbered : Result Header Refusal → Type 0
+Numbered (Ok h) = Unit {0}
+Numbered (Err r) = one_of refusals r.number ≡ true
 
-numbered_if : (wrong : Bool) (number port : ℕ) (rest : Reading) → one_of refusals number ≡ true → Numbered rest → Numbered (refused_if wrong number port rest)
+numbered_if : (wrong : Bool) (number port : ℕ) (rest : Result Header Refusal) → one_of refusals number ≡ true → Numbered rest → Numbered (refused_if wrong number port rest)
 numbered_if true number port rest is other = is
 numbered_if false number port rest is other = other
 
-numbered_at : (found : Found) (number : ℕ) (rest : Reading) → one_of refusals number ≡ true → Numbered rest → Numbered (refused_at found number rest)
-numbered_at (At p) number rest is other = is
-numbered_at Nothing number rest is other = other
+numbered_at : (found : Option ℕ) (number : ℕ) (rest : Result Header Refusal) → one_of refusals number ≡ true → Numbered rest → Numbered (refused_at found number rest)
+numbered_at (Some p) number rest is other = is
+numbered_at None number rest is other = other
 
 reading_numbered : (s : List ℕ) → Numbered (reading s)
 unfolding reading ports_reading
@@ -85,7 +82,7 @@ refusal_of_table others n e = in_more of_reading others n (zero_too (eqb n 0) e)
     zero_too true e = refl
     zero_too false e = e
 
-pub never_zero : (s : List ℕ) (r : Refusal) → reading s ≡ Refused r → r.number ≡ 0 → ⊥
+pub never_zero : (s : List ℕ) (r : Refusal) → reading s ≡ Err r → r.number ≡ 0 → ⊥
 never_zero s r e none =
     let told : one_of refusals r.number ≡ true = subst Numbered e (reading_numbered s) in
     let zero : one_of refusals 0 ≡ true = subst (λ (n : ℕ). one_of refusals n ≡ true) none told in
@@ -108,55 +105,54 @@ module _ (s : List ℕ) where
       either n true told = refl
       either n false told = told
 
-      go : (got : Reading) → Numbered got → one_of of_reading (number_of got) ≡ true
-      go (Refused r) told = either r.number (eqb r.number 0) told
-      go (Read h) told = refl
+      go : (got : Result Header Refusal) → Numbered got → one_of of_reading (number_of got) ≡ true
+      go (Err r) told = either r.number (eqb r.number 0) told
+      go (Ok h) told = refl
 
   pub check_numbered : one_of of_check (check_number (check_answer s)) ≡ true
   unfolding check_of check_finding refusal_finding
   check_numbered = go (reading s) (reading_numbered s)
     where
-      go : (got : Reading) → Numbered got → one_of of_check (check_number (check_of got s)) ≡ true
-      go (Refused r) told = refusal_of_table (11 ∷ 12 ∷ 13 ∷ 14 ∷ 15 ∷ 18 ∷ []) r.number told
-      go (Read h) told = verdict_numbered (verdict_of (chassis_of s))
+      go : (got : Result Header Refusal) → Numbered got → one_of of_check (check_number (check_of got s)) ≡ true
+      go (Err r) told = refusal_of_table (11 ∷ 12 ∷ 13 ∷ 14 ∷ 15 ∷ 18 ∷ []) r.number told
+      go (Ok h) told = verdict_numbered (verdict_of (chassis_of s))
 
   pub claim_numbered : (port kind target : ℕ) → one_of of_asking (claim_number (claim_answer s port kind target)) ≡ true
   unfolding claim_of
   claim_numbered port kind target = go (reading s) (reading_numbered s)
     where
       asked : (wrong : Bool) (h : Header) → claim_asked_wrongly h.count port kind target ≡ wrong
-          → one_of of_asking (claim_number (claim_of (Read h) s port kind target)) ≡ true
+          → one_of of_asking (claim_number (claim_of (Ok h) s port kind target)) ≡ true
       asked true h e = rw e
       asked false h e = rw e
 
-      go : (got : Reading) → Numbered got → one_of of_asking (claim_number (claim_of got s port kind target)) ≡ true
-      go (Refused r) told = refusal_of_table (16 ∷ []) r.number told
-      go (Read h) told = asked (claim_asked_wrongly h.count port kind target) h refl
+      go : (got : Result Header Refusal) → Numbered got → one_of of_asking (claim_number (claim_of got s port kind target)) ≡ true
+      go (Err r) told = refusal_of_table (16 ∷ []) r.number told
+      go (Ok h) told = asked (claim_asked_wrongly h.count port kind target) h refl
 
   pub convert_numbered : (port target : ℕ) → one_of of_asking (convert_number (convert_answer s port target)) ≡ true
   unfolding convert_of
   convert_numbered port target = go (reading s) (reading_numbered s)
     where
       asked : (wrong : Bool) (h : Header) → convert_asked_wrongly h.count port target ≡ wrong
-          → one_of of_asking (convert_number (convert_of (Read h) s port target)) ≡ true
+          → one_of of_asking (convert_number (convert_of (Ok h) s port target)) ≡ true
       asked true h e = rw e
       asked false h e = rw e
 
-      go : (got : Reading) → Numbered got → one_of of_asking (convert_number (convert_of got s port target)) ≡ true
-      go (Refused r) told = refusal_of_table (16 ∷ []) r.number told
-      go (Read h) told = asked (convert_asked_wrongly h.count port target) h refl
+      go : (got : Result Header Refusal) → Numbered got → one_of of_asking (convert_number (convert_of got s port target)) ≡ true
+      go (Err r) told = refusal_of_table (16 ∷ []) r.number told
+      go (Ok h) told = asked (convert_asked_wrongly h.count port target) h refl
 
-  pub walk_numbered : (kind start target : ℕ) (a : WalkAnswer) → WalkGives s kind start target a → one_of of_asking (outcome_number a.outcome) ≡ true
-  unfolding refused_walk ended_walk
+  pub walk_numbered : (kind start target : ℕ) (a : Result Walked Refusal) → WalkGives s kind start target a → one_of of_asking (outcome_number a) ≡ true
   walk_numbered kind start target a = go (reading s) (reading_numbered s)
     where
-      asked : (wrong : Bool) → AskedGives wrong (chassis_of s) kind start target a → one_of of_asking (outcome_number a.outcome) ≡ true
+      asked : (wrong : Bool) → AskedGives wrong (chassis_of s) kind start target a → one_of of_asking (outcome_number a) ≡ true
       asked true e = rw e
       asked false e = rw e.2
 
-      go : (got : Reading) → Numbered got → ReadGives got s kind start target a → one_of of_asking (outcome_number a.outcome) ≡ true
-      go (Refused r) told e = rw e (refusal_of_table (16 ∷ []) r.number told)
-      go (Read h) told e = asked (asked_wrongly (chassis_of s).tree kind start target) e
+      go : (got : Result Header Refusal) → Numbered got → ReadGives got s kind start target a → one_of of_asking (outcome_number a) ≡ true
+      go (Err r) told e = rw e (refusal_of_table (16 ∷ []) r.number told)
+      go (Ok h) told e = asked (asked_wrongly (chassis_of s).tree kind start target) e
 
 -- the numbers of a patch beside those of a list
 in-patch : (xs : List ℕ) (n : ℕ) → one_of of_patch n ≡ true → one_of (xs ++ of_patch) n ≡ true
@@ -168,11 +164,11 @@ in-patch (x ∷ xs) n e = go (eqb n x) (in-patch xs n e)
     go false other = other
 
 -- a refusal of picture or patch is one of 1 to 10 or one of 30 to 32
-abbrev Tried : Reading → Type 0
-Tried (Read h) = Unit {0}
-Tried (Refused r) = (one_of refusals r.number ≡ true) ⊎ (one_of of_patch r.number ≡ true)
+abbrev Tried : Result Header Refusal → Type 0
+Tried (Ok h) = Unit {0}
+Tried (Err r) = (one_of refusals r.number ≡ true) ⊎ (one_of of_patch r.number ≡ true)
 
-tried_if : (wrong : Bool) (number port : ℕ) (rest : Reading) → one_of of_patch number ≡ true → Tried rest → Tried (refused_if wrong number port rest)
+tried_if : (wrong : Bool) (number port : ℕ) (rest : Result Header Refusal) → one_of of_patch number ≡ true → Tried rest → Tried (refused_if wrong number port rest)
 tried_if true number port rest is other = inr is
 tried_if false number port rest is other = other
 
@@ -180,9 +176,9 @@ reading_tried : (s patch : List ℕ) → Tried (reading_with s patch)
 unfolding patch_reading
 reading_tried s patch = go (reading s) (reading_numbered s)
   where
-    go : (got : Reading) → Numbered got → Tried (patch_reading got s patch)
-    go (Refused r) told = inl told
-    go (Read h) told =
+    go : (got : Result Header Refusal) → Numbered got → Tried (patch_reading got s patch)
+    go (Err r) told = inl told
+    go (Ok h) told =
         tried_if (header_misfits patch) 30 255 _ refl
         (tried_if (ports_misplaced h.count patch) 31 255 _ refl
         (tried_if (vectors_misplaced s patch) 32 255 _ refl tt))
@@ -191,7 +187,7 @@ tried_of_table : (others : List ℕ) (n : ℕ) → (one_of refusals n ≡ true) 
 tried_of_table others n told =
     ⊎_elim (λ e. in_more (of_reading ++ others) of_patch n (refusal_of_table others n e)) (λ e. in-patch (of_reading ++ others) n e) told
 
-pub tried_never_zero : (s patch : List ℕ) (r : Refusal) → reading_with s patch ≡ Refused r → r.number ≡ 0 → ⊥
+pub tried_never_zero : (s patch : List ℕ) (r : Refusal) → reading_with s patch ≡ Err r → r.number ≡ 0 → ⊥
 tried_never_zero s patch r e none =
     ⊎_elim (λ told. let zero : one_of refusals 0 ≡ true = subst (λ (n : ℕ). one_of refusals n ≡ true) none told in impossible (cc))
     (λ told. let zero : one_of of_patch 0 ≡ true = subst (λ (n : ℕ). one_of of_patch n ≡ true) none told in impossible (cc))
@@ -201,36 +197,35 @@ module _ (s patch : List ℕ) where
   pub tried_in_table : one_of (of_reading ++ of_patch) (number_of (reading_with s patch)) ≡ true
   tried_in_table = go (reading_with s patch) (reading_tried s patch)
     where
-      go : (got : Reading) → Tried got → one_of (of_reading ++ of_patch) (number_of got) ≡ true
-      go (Refused r) told = tried_of_table [] r.number told
-      go (Read h) told = refl
+      go : (got : Result Header Refusal) → Tried got → one_of (of_reading ++ of_patch) (number_of got) ≡ true
+      go (Err r) told = tried_of_table [] r.number told
+      go (Ok h) told = refl
 
   pub trial_check_numbered : one_of (of_check ++ of_patch) (check_number (trial_check s patch)) ≡ true
   unfolding tried_check check_finding refusal_finding
   trial_check_numbered = go (reading_with s patch) (reading_tried s patch)
     where
-      go : (got : Reading) → Tried got → one_of (of_check ++ of_patch) (check_number (tried_check got (patched s patch))) ≡ true
-      go (Refused r) told = tried_of_table (11 ∷ 12 ∷ 13 ∷ 14 ∷ 15 ∷ 18 ∷ []) r.number told
-      go (Read h) told = in_more of_check of_patch (check_number (check_answer (patched s patch))) (check_numbered (patched s patch))
+      go : (got : Result Header Refusal) → Tried got → one_of (of_check ++ of_patch) (check_number (tried_check got (patched s patch))) ≡ true
+      go (Err r) told = tried_of_table (11 ∷ 12 ∷ 13 ∷ 14 ∷ 15 ∷ 18 ∷ []) r.number told
+      go (Ok h) told = in_more of_check of_patch (check_number (check_answer (patched s patch))) (check_numbered (patched s patch))
 
-  pub trial_walk_numbered : (kind start target : ℕ) (a : WalkAnswer) → TrialGives s patch kind start target a
-      → one_of (of_asking ++ of_patch) (outcome_number a.outcome) ≡ true
-  unfolding refused_walk
+  pub trial_walk_numbered : (kind start target : ℕ) (a : Result Walked Refusal) → TrialGives s patch kind start target a
+      → one_of (of_asking ++ of_patch) (outcome_number a) ≡ true
   trial_walk_numbered kind start target a = go (reading_with s patch) (reading_tried s patch)
     where
-      go : (got : Reading) → Tried got → TriedGives got (patched s patch) kind start target a
-          → one_of (of_asking ++ of_patch) (outcome_number a.outcome) ≡ true
-      go (Refused r) told e = rw e (tried_of_table (16 ∷ []) r.number told)
-      go (Read h) told e = in_more of_asking of_patch (outcome_number a.outcome) (walk_numbered (patched s patch) kind start target a e)
+      go : (got : Result Header Refusal) → Tried got → TriedGives got (patched s patch) kind start target a
+          → one_of (of_asking ++ of_patch) (outcome_number a) ≡ true
+      go (Err r) told e = rw e (tried_of_table (16 ∷ []) r.number told)
+      go (Ok h) told e = in_more of_asking of_patch (outcome_number a) (walk_numbered (patched s patch) kind start target a e)
 
   pub trial_part_numbered : (port : ℕ) (m : Mechanism) → one_of (of_asking ++ of_patch) (part_number (trial_part s patch port m)) ≡ true
   unfolding tried_part
   trial_part_numbered port m = go (reading_with s patch) (reading_tried s patch)
     where
-      below : (b : Bool) (h : Header) → ltb port h.count ≡ b → one_of (of_asking ++ of_patch) (part_number (tried_part (Read h) s patch port m)) ≡ true
+      below : (b : Bool) (h : Header) → ltb port h.count ≡ b → one_of (of_asking ++ of_patch) (part_number (tried_part (Ok h) s patch port m)) ≡ true
       below true h e = rw e
       below false h e = rw e
 
-      go : (got : Reading) → Tried got → one_of (of_asking ++ of_patch) (part_number (tried_part got s patch port m)) ≡ true
-      go (Refused r) told = tried_of_table (16 ∷ []) r.number told
-      go (Read h) told = below (ltb port h.count) h refl
+      go : (got : Result Header Refusal) → Tried got → one_of (of_asking ++ of_patch) (part_number (tried_part got s patch port m)) ≡ true
+      go (Err r) told = tried_of_table (16 ∷ []) r.number told
+      go (Ok h) told = below (ltb port h.count) h refl

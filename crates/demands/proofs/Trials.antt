@@ -14,8 +14,6 @@ use Rattle.registers.specs.declared.Mechanism.{Mechanism}
 use Rattle.registers.specs.Record.{port_at}
 use Rattle.trees.specs.Trees.{count_of}
 use Rattle.picture.specs.declared.Header.{Header}
-use Rattle.picture.specs.declared.Reading.{Reading}
-use Rattle.picture.specs.declared.Reading.TheVariants.{Read, Refused as NotRead}
 use Rattle.picture.specs.Layout.{vector_of}
 use Rattle.patches.specs.Parts.{place_of, part_at}
 use Rattle.patches.specs.Patched.{patched}
@@ -23,18 +21,17 @@ use Rattle.patches.specs.Reading.{reading_with}
 use Rattle.patches.proofs.Accepted.{accepted}
 use Rattle.patches.proofs.PatchedReads.{port_patched, vector_patched, vector_told}
 use Rattle.claims.specs.Claims.{chassis_of}
-use Rattle.judge.specs.declared.CheckAnswer.TheVariants.{Judged}
-use Rattle.judge.specs.declared.Outcome.TheVariants.{Ended}
-use Rattle.judge.specs.declared.PartAnswer.TheVariants.{Lies}
-use Rattle.judge.specs.declared.WalkAnswer.{WalkAnswer}
 use Rattle.judge.specs.Checking.{check_finding}
 use Rattle.judge.specs.Refusals.{refusal_finding}
 use Rattle.judge.specs.Trying.{tried_check, trial_check, TriedGives, tried_part, trial_part}
-use Rattle.judge.specs.Walking.{packet_of, refused_walk}
+use Rattle.judge.specs.Walking.{packet_of}
 use Rattle.judge.proofs.Trials.{count_tried, patched_read, trial_only}
 use Rattle.demands.specs.Demands.{Names, Trial1, Trial2, Trial3, TrialOverlap}
 use Rattle.demands.proofs.Demands.{walks_in, tried, demand_2, demand_3, fails_exactly, judged, judged_only}
 use Rattle.demands.proofs.Numbers.{tried_never_zero, tried_in_table, trial_check_numbered, trial_walk_numbered, trial_part_numbered}
+use Rattle.std.specs.Prelude.{Result, Ok, Err}
+use Rattle.picture.specs.declared.Refusal.{Refusal}
+use Rattle.routes.specs.declared.Walked.{Walked}
 
 pub trial_1 : (s patch : List ℕ) → Trial1 s patch
 trial_1 s patch =
@@ -49,27 +46,24 @@ module _ (s patch : List ℕ) where
   abbrev s' : List ℕ
   s' = patched s patch
 
-  module _ (h : Header) (is : reading_with s patch ≡ Read h) (port : ℕ) (below : port < h.count) where
+  module _ (h : Header) (is : reading_with s patch ≡ Ok h) (port : ℕ) (below : port < h.count) where
     there : port < count_of s
     there = rw (← count_tried s patch h is) below
 
     registers_kept : port_at s' port ≡ port_at s port
     registers_kept = port_patched s patch h (accepted s patch h is) port there
 
-    lies_there : (m : Mechanism) → trial_part s patch port m ≡ Lies (place_of s patch port m)
+    lies_there : (m : Mechanism) → trial_part s patch port m ≡ Ok (place_of s patch port m)
     unfolding tried_part
     lies_there m = rw (is, lt-ltb port h.count below)
 
     handed_out : (m : Mechanism) → vector_of s' port m ≡ part_at (place_of s patch port m) s patch
     handed_out m = vector_patched s patch h (accepted s patch h is) port there m ∙ vector_told s patch h is port m
 
-  named_in : (kind start target : ℕ) (a : WalkAnswer) (e : End) (got : Reading) → TriedGives got s' kind start target a → a.outcome ≡ Ended e
-      → (crossed : List PortNo) × Walk (chassis_of s') (packet_of kind target) (starts_at (chassis_of s') (packet_of kind target) start) crossed e × Names a.path crossed
-  unfolding refused_walk
-  named_in kind start target a e (NotRead r) gives ended =
-      let told = ap (λ (x : WalkAnswer). x.outcome) gives in
-      impossible (cc)
-  named_in kind start target a e (Read h) gives ended = (walks_in s').named kind start target a e gives ended
+  named_in : (kind start target : ℕ) (w : Walked) (got : Result Header Refusal) → TriedGives got s' kind start target (Ok w)
+      → (crossed : List PortNo) × Walk (chassis_of s') (packet_of kind target) (starts_at (chassis_of s') (packet_of kind target) start) crossed w.end × Names w.path crossed
+  named_in kind start target w (Err r) gives = impossible (cc)
+  named_in kind start target w (Ok h) gives = (walks_in s').named kind start target w gives
 
   pub trial_2 : Trial2 s patch
   trial_2 =
@@ -83,7 +77,7 @@ module _ (s patch : List ℕ) where
             record {
               answers = tried s patch;
               only = trial_only s patch;
-              named = λ kind start target a e gives ended. named_in kind start target a e (reading_with s patch) gives ended;
+              named = λ kind start target w gives. named_in kind start target w (reading_with s patch) gives;
             };
       }
 
@@ -91,21 +85,21 @@ module _ (s patch : List ℕ) where
   unfolding tried_check check_finding refusal_finding
   trial_3 passed t range = go (reading_with s patch) refl passed
     where
-      go : (got : Reading) → reading_with s patch ≡ got → (check_finding (tried_check got s')).number ≡ 0 → OneEnd (chassis_of s') t
-      go (NotRead r) is none = absurd (tried_never_zero s patch r is none)
-      go (Read h) is none = demand_3 s' none t range
+      go : (got : Result Header Refusal) → reading_with s patch ≡ got → (check_finding (tried_check got s')).number ≡ 0 → OneEnd (chassis_of s') t
+      go (Err r) is none = absurd (tried_never_zero s patch r is none)
+      go (Ok h) is none = demand_3 s' none t range
 
-  judges : (h : Header) → reading_with s patch ≡ Read h → trial_check s patch ≡ Judged (verdict_of (chassis_of s'))
+  judges : (h : Header) → reading_with s patch ≡ Ok h → trial_check s patch ≡ Ok (verdict_of (chassis_of s'))
   unfolding tried_check
   judges h is = rw is (judged s' h (patched_read s patch h is))
 
-  judges_only : (v : Verdict) → trial_check s patch ≡ Judged v → verdict_of (chassis_of s') ≡ v
+  judges_only : (v : Verdict) → trial_check s patch ≡ Ok v → verdict_of (chassis_of s') ≡ v
   unfolding tried_check
   judges_only v = go (reading_with s patch)
     where
-      go : (got : Reading) → tried_check got s' ≡ Judged v → verdict_of (chassis_of s') ≡ v
-      go (NotRead r) e = impossible (cc)
-      go (Read h) e = judged_only s' v e
+      go : (got : Result Header Refusal) → tried_check got s' ≡ Ok v → verdict_of (chassis_of s') ≡ v
+      go (Err r) e = impossible (cc)
+      go (Ok h) e = judged_only s' v e
 
   pub trial_overlap : TrialOverlap s patch
   trial_overlap = fails_exactly (reading_with s patch) (trial_check s patch) (chassis_of s') judges judges_only

@@ -19,7 +19,6 @@ use Rattle.chassis.specs.Tree.{any_below}
 use Rattle.chassis.proofs.CheckLaws.{no_address_taken}
 use Rattle.chassis.proofs.Ports.{any_below_false}
 use Rattle.chassis.proofs.Verdicts.{verdict_exactly}
-use Rattle.picture.specs.declared.Reading.TheVariants.{Read}
 use Rattle.picture.specs.Reading.{reading}
 use Rattle.registers.specs.Record.{bridge_at, fpb_at, port_at, record_at}
 use Rattle.registers.specs.Rules.{with_ari}
@@ -33,11 +32,12 @@ use Rattle.demands.specs.Worked.{zeros, u16, u32, header_in, record_of, switch_w
 use Rattle.demands.proofs.Demands.{demand_3}
 use Rattle.demands.proofs.Tests.{either_or, empty, apart, within, elsewhere, never_both}
 use Rattle.demands.proofs.FourPorts.{four_ports, reads, id, unshared_where}
+use Rattle.std.specs.Prelude.{Ok}
 
 abbrev c : Chassis
 c = chassis_of worked
 
-pub worked_reads : reading worked ≡ Read four_ports
+pub worked_reads : reading worked ≡ Ok four_ports
 worked_reads = reads 4
 
 -- what each port claims: its buses, and the one window or none

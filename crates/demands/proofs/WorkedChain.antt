@@ -33,14 +33,12 @@ use Rattle.vectors.specs.Vectors.{is_set, hits}
 use Rattle.picture.specs.Header.{header_of, length_wrong, edition_wrong, count_wrong, total_wrong, offset_wrong}
 use Rattle.picture.specs.Layout.{running_offset, place_wrong, end_wrong, vector_of}
 use Rattle.picture.specs.declared.Header.{Header}
-use Rattle.picture.specs.declared.Reading.TheVariants.{Read}
 use Rattle.picture.specs.Reading.{breaks, misplaced_in, ports_reading, reading}
 use Rattle.claims.specs.Decoders.{between, bus_claims, vector_claims, memory_space_enabled, id_decoders, address_decoders}
 use Rattle.claims.specs.Conversion.{in_secondary_range, converted_by_bus, converted}
 use Rattle.claims.specs.Claims.{chassis_of}
 use Rattle.claims.proofs.Converts.{takes_what}
 use Rattle.claims.proofs.Joined.{claims_id}
-use Rattle.judge.specs.declared.CheckAnswer.TheVariants.{Judged}
 use Rattle.judge.specs.Asking.{id_too_large}
 use Rattle.judge.specs.Checking.{check_of, check_answer, check_finding, check_number}
 use Rattle.judge.specs.Walking.{packet_of, is_start, asked_wrongly, WalkGives}
@@ -51,12 +49,13 @@ use Rattle.demands.proofs.Tests.{either_or, just, within, elsewhere}
 use Rattle.demands.proofs.FourPorts.{id}
 use Rattle.demands.proofs.WorkedWalks.{given}
 use Rattle.demands.proofs.Zeros.{clear}
+use Rattle.std.specs.Prelude.{Ok}
 
 -- three ports, and one vector of 32 bytes
 abbrev three_ports : Header
 three_ports = record { edition = 1; count = 3; total = 216; records_at = 16; vectors_at = 184 }
 
-pub chain_reads : (start : ℕ) → reading (chain_from start) ≡ Read three_ports
+pub chain_reads : (start : ℕ) → reading (chain_from start) ≡ Ok three_ports
 unfolding zeros u16 u32 bridge_of chain_from reading ports_reading misplaced_in breaks running_offset place_wrong end_wrong header_of length_wrong edition_wrong count_wrong total_wrong offset_wrong size_reserved granularity_allowed mechanism_wrong memory_bits_wrong settings_wrong with_ari start_broken start_wrong settings_of vector_bytes bridge_at fpb_at port_at record_at any_below upstream_broken downstream_broken tree_broken one_above above chain_too_long first_of first_in u16_at u32_at
 chain_reads start = refl
 
@@ -206,9 +205,9 @@ says_taken = (
     lower (suc q) l = absurd (omega (arith, l))
 
 -- 18 is all that is wrong, and the least such ID is shown, with its port
-pub taken_shown : check_answer taken_chain ≡ Judged (Found-as-Taken (id 0x0200) by_bus)
+pub taken_shown : check_answer taken_chain ≡ Ok (Found-as-Taken (id 0x0200) by_bus)
 unfolding check_of
-taken_shown = rw (chain_reads 0x40) (ap Judged ((verdict_exactly (chassis_of taken_chain) (Found-as-Taken (id 0x0200) by_bus)).1 says_taken))
+taken_shown = rw (chain_reads 0x40) (ap Ok ((verdict_exactly (chassis_of taken_chain) (Found-as-Taken (id 0x0200) by_bus)).1 says_taken))
 
 pub chain_walks : ChainWalks
 unfolding zeros u16 u32 bridge_of chain_from u16_at u32_at bridge_at fpb_at port_at record_at with_ari settings_of vector_bytes vector_of is_set hits bus_claims vector_claims id_decoders at_least_one in_secondary_range converted_by_bus converted holds with_port lowest_two passes_at any_below is_device_port function_number decided downward by_holders sole_holder device_or come_to is_redirected under_type0 under_type1 next packet_of id_too_large is_start asked_wrongly

@@ -3,7 +3,6 @@
 use Prim.Native.Nat.{ℕ}
 use mathlib.Core.List.{List, [], ◌∷◌}
 use mathlib.Core.Path.{◌≡◌, refl}
-use Rattle.least.specs.declared.Found.TheVariants.{At, Nothing}
 use Rattle.lent.specs.Lent.{u16_at, u32_at}
 use Rattle.chassis.specs.Tree.{any_below}
 use Rattle.registers.specs.Record.{fpb_at, port_at, record_at}
@@ -16,6 +15,7 @@ use Rattle.demands.specs.Worked.{zeros, u16, u32, one_port, header_in, redirecti
 use Rattle.demands.specs.History.{RunAdded}
 use Rattle.demands.proofs.Histories.{history_added}
 use Rattle.demands.proofs.WorkedTrial.{one_reads}
+use Rattle.std.specs.Prelude.{Some, None}
 
 -- the first byte of port 0's vectors, from one byte to another
 abbrev vector : ℕ → ℕ → Change
@@ -57,10 +57,10 @@ one_too_many = rw one_reads
 abbrev record_byte : ℕ → Change
 record_byte at = record { port = 0; part = 0; at = at; old_byte = 0; new_byte = 1 }
 
-pub last_of_56 : (byte_named one_port (record_byte 55) ≡ At 71) × (byte_named one_port (record_byte 56) ≡ Nothing)
+pub last_of_56 : (byte_named one_port (record_byte 55) ≡ Some 71) × (byte_named one_port (record_byte 56) ≡ None)
 unfolding zeros u16 u32 one_port u16_at record_at part_bytes part_start byte_named
 last_of_56 = (refl, refl)
 
-pub last_of_60 : (byte_named (redirecting 0) (record_byte 59) ≡ At 75) × (byte_named (redirecting 0) (record_byte 60) ≡ Nothing)
+pub last_of_60 : (byte_named (redirecting 0) (record_byte 59) ≡ Some 75) × (byte_named (redirecting 0) (record_byte 60) ≡ None)
 unfolding zeros u16 u32 header_in redirecting u16_at record_at part_bytes part_start byte_named
 last_of_60 = (refl, refl)

@@ -21,7 +21,6 @@ use Rattle.registers.specs.Record.{bridge_at, fpb_at, port_at, record_at}
 use Rattle.registers.specs.Rules.{size_reserved, granularity_allowed, mechanism_wrong, memory_bits_wrong, settings_wrong, with_ari, with_redirect, start_broken, start_wrong}
 use Rattle.registers.specs.Vectors.{settings_of, vector_bytes}
 use Rattle.picture.specs.declared.Header.{Header}
-use Rattle.picture.specs.declared.Reading.TheVariants.{Read}
 use Rattle.picture.specs.Header.{header_of, length_wrong, edition_wrong, count_wrong, total_wrong, offset_wrong}
 use Rattle.picture.specs.Layout.{running_offset, place_wrong, end_wrong, vector_of}
 use Rattle.picture.specs.Reading.{breaks, misplaced_in, ports_reading, reading}
@@ -38,12 +37,13 @@ use Rattle.demands.proofs.Demands.{demand_3}
 use Rattle.demands.proofs.FourPorts.{four_ports, reads}
 use Rattle.demands.proofs.Worked.{worked_reads, worked_passes}
 use Rattle.demands.proofs.WorkedWalks.{given}
+use Rattle.std.specs.Prelude.{Ok}
 
 -- four ports of 60 bytes, and no vectors
 abbrev pub four_longer : Header
 four_longer = record { edition = 2; count = 4; total = 256; records_at = 16; vectors_at = 256 }
 
-pub redirecting_reads : (acs : ℕ) → reading (redirecting acs) ≡ Read four_longer
+pub redirecting_reads : (acs : ℕ) → reading (redirecting acs) ≡ Ok four_longer
 unfolding zeros u16 u32 header_in record_of redirecting reading ports_reading misplaced_in breaks running_offset place_wrong end_wrong header_of length_wrong edition_wrong count_wrong total_wrong offset_wrong size_reserved granularity_allowed mechanism_wrong memory_bits_wrong settings_wrong with_ari start_broken start_wrong settings_of vector_bytes bridge_at fpb_at port_at record_at any_below upstream_broken downstream_broken tree_broken one_above above chain_too_long first_of first_in u16_at u32_at
 redirecting_reads acs = refl
 

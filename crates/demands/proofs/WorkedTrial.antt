@@ -30,7 +30,6 @@ use Rattle.registers.specs.Vectors.{settings_of, vector_bytes}
 use Rattle.picture.specs.Header.{header_of, length_wrong, edition_wrong, count_wrong, total_wrong, offset_wrong}
 use Rattle.picture.specs.Layout.{running_offset, place_wrong, end_wrong, vector_of}
 use Rattle.picture.specs.declared.Header.{Header}
-use Rattle.picture.specs.declared.Reading.TheVariants.{Read}
 use Rattle.picture.specs.Reading.{breaks, misplaced_in, ports_reading, reading}
 use Rattle.patches.specs.Patch.{row_at, port_in, offset_at, running_in, header_misfits, not_rising, port_misplaced, ports_misplaced, offset_misplaced, vectors_misplaced}
 use Rattle.patches.specs.Patched.{put_in, new_vectors, patched_to, patched}
@@ -38,7 +37,6 @@ use Rattle.patches.specs.Reading.{patch_reading, reading_with}
 use Rattle.claims.specs.Decoders.{bus_claims, vector_claims, memory_space_enabled, id_decoders, address_decoders}
 use Rattle.claims.specs.Claims.{chassis_of}
 use Rattle.claims.proofs.Joined.{claims_id}
-use Rattle.judge.specs.declared.CheckAnswer.TheVariants.{Judged}
 use Rattle.judge.specs.Checking.{check_of, check_answer, check_finding, check_number}
 use Rattle.judge.specs.Trying.{tried_check, trial_check}
 use Rattle.demands.specs.Demands.{Overlap}
@@ -47,9 +45,10 @@ use Rattle.demands.proofs.Trials.{trial_2, trial_3, trial_overlap}
 use Rattle.demands.proofs.FourPorts.{four_ports, id}
 use Rattle.demands.proofs.Worked.{worked_reads, worked_passes}
 use Rattle.demands.proofs.Zeros.{clear}
+use Rattle.std.specs.Prelude.{Ok}
 
 -- the patch of no ports is accepted
-pub nothing_accepted : reading_with worked nothing ≡ Read four_ports
+pub nothing_accepted : reading_with worked nothing ≡ Ok four_ports
 unfolding u16 u32 u16_at u32_at row_at running_in header_misfits ports_misplaced vectors_misplaced any_below patch_reading
 nothing_accepted = rw worked_reads
 
@@ -72,7 +71,7 @@ abbrev pub one_vector : Header
 one_vector = record { edition = 1; count = 1; total = 104; records_at = 16; vectors_at = 72 }
 
 -- the picture of one port reads
-pub one_reads : reading one_port ≡ Read one_vector
+pub one_reads : reading one_port ≡ Ok one_vector
 unfolding zeros u16 u32 one_port reading ports_reading misplaced_in breaks running_offset place_wrong end_wrong header_of length_wrong edition_wrong count_wrong total_wrong offset_wrong size_reserved granularity_allowed mechanism_wrong memory_bits_wrong settings_wrong with_ari start_broken start_wrong settings_of vector_bytes bridge_at fpb_at port_at record_at tree_broken one_above above chain_too_long first_of first_in u16_at u32_at
 one_reads = refl
 
@@ -100,7 +99,7 @@ unfolding check_of check_finding
 one_passes = rw one_reads (rw ((verdict_exactly (chassis_of one_port) Clear).1 says_clear))
 
 -- the patch of its own entry is accepted
-pub own_accepted : reading_with one_port own_entry ≡ Read one_vector
+pub own_accepted : reading_with one_port own_entry ≡ Ok one_vector
 unfolding zeros u16 u32 one_port own_entry u16_at u32_at fpb_at port_at record_at vector_bytes row_at port_in offset_at running_in header_misfits not_rising port_misplaced ports_misplaced offset_misplaced vectors_misplaced any_below patch_reading
 own_accepted = rw one_reads
 
@@ -147,8 +146,8 @@ says_own = (record { in_range = omega arith; passes = refl; first = first; port 
     sole passes = record { below = omega arith; passes = passes; first = λ q l. absurd (omega (arith, l)) }
 
 -- the least such target is shown, with its port
-pub own_shown : trial_check one_port own_entry ≡ Judged (Found-as-Shared (id 0x0008) own_by_rid own_by_rid)
+pub own_shown : trial_check one_port own_entry ≡ Ok (Found-as-Shared (id 0x0008) own_by_rid own_by_rid)
 unfolding tried_check check_of
 own_shown =
     rw (own_accepted, (trial_2 one_port own_entry).reads one_vector own_accepted)
-    (ap Judged ((verdict_exactly (chassis_of (patched one_port own_entry)) (Found-as-Shared (id 0x0008) own_by_rid own_by_rid)).1 says_own))
+    (ap Ok ((verdict_exactly (chassis_of (patched one_port own_entry)) (Found-as-Shared (id 0x0008) own_by_rid own_by_rid)).1 says_own))

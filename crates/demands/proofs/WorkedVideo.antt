@@ -24,15 +24,14 @@ use Rattle.registers.specs.Vectors.{settings_of, vector_bytes}
 use Rattle.picture.specs.Header.{header_of, length_wrong, edition_wrong, count_wrong, total_wrong, offset_wrong}
 use Rattle.picture.specs.Layout.{running_offset, place_wrong, end_wrong}
 use Rattle.picture.specs.declared.Header.{Header}
-use Rattle.picture.specs.declared.Reading.TheVariants.{Read}
 use Rattle.picture.specs.Reading.{breaks, misplaced_in, ports_reading, reading}
 use Rattle.claims.specs.Decoders.{between, bus_claims, vector_claims, memory_claims, prefetchable_claims, low_claims, high_claims, vga_enabled, video_claims, memory_space_enabled, id_decoders, address_decoders}
 use Rattle.claims.specs.Claims.{chassis_of}
-use Rattle.judge.specs.declared.CheckAnswer.TheVariants.{Judged}
 use Rattle.judge.specs.Checking.{check_of, check_answer}
 use Rattle.demands.specs.Worked.{zeros, u16, u32, header_in, display_of, displays}
 use Rattle.demands.proofs.Tests.{just, empty}
 use Rattle.demands.proofs.FourPorts.{id}
+use Rattle.std.specs.Prelude.{Ok}
 
 abbrev c : Chassis
 c = chassis_of displays
@@ -41,7 +40,7 @@ c = chassis_of displays
 abbrev two_ports : Header
 two_ports = record { edition = 1; count = 2; total = 128; records_at = 16; vectors_at = 128 }
 
-displays_read : reading displays ≡ Read two_ports
+displays_read : reading displays ≡ Ok two_ports
 unfolding zeros u16 u32 header_in display_of displays reading ports_reading misplaced_in breaks running_offset place_wrong end_wrong header_of length_wrong edition_wrong count_wrong total_wrong offset_wrong size_reserved granularity_allowed mechanism_wrong memory_bits_wrong settings_wrong with_ari start_broken start_wrong settings_of vector_bytes bridge_at fpb_at port_at record_at any_below tree_broken one_above above chain_too_long first_of first_in u16_at u32_at
 displays_read = refl
 
@@ -92,6 +91,6 @@ says_displays = (record { in_range = omega arith; passes = refl; first = first; 
     first (Addr a) below = unshared_address a below
 
 -- the least such target is shown, with its ports and by what they hold it
-pub displays_shown : check_answer displays ≡ Judged (Shared (Addr 0xA0000) (by_vga 0) (by_vga 1))
+pub displays_shown : check_answer displays ≡ Ok (Shared (Addr 0xA0000) (by_vga 0) (by_vga 1))
 unfolding check_of
-displays_shown = rw displays_read (ap Judged ((verdict_exactly c (Shared (Addr 0xA0000) (by_vga 0) (by_vga 1))).1 says_displays))
+displays_shown = rw displays_read (ap Ok ((verdict_exactly c (Shared (Addr 0xA0000) (by_vga 0) (by_vga 1))).1 says_displays))

@@ -16,24 +16,24 @@ use Rattle.claims.specs.Decoders.{bus_claims, vector_claims, memory_claims, pref
 use Rattle.claims.specs.Conversion.{in_secondary_range, converted_by_bus, converted}
 use Rattle.claims.specs.Claims.{chassis_of}
 use Rattle.picture.specs.declared.Header.{Header}
-use Rattle.picture.specs.declared.Reading.TheVariants.{Read}
 use Rattle.picture.specs.Reading.{reading}
 use Rattle.judge.specs.Asking.{target_asked, id_too_large}
-use Rattle.judge.specs.Walking.{packet_of, is_start, asked_wrongly, ended_walk, WalkGives}
+use Rattle.judge.specs.Walking.{packet_of, is_start, asked_wrongly, WalkGives}
+use Rattle.paths.specs.Paths.{path_of}
 use Rattle.trees.specs.Trees.{tree_of}
 use Rattle.demands.specs.Worked.{zeros, u16, u32, header_in, record_of, switch_with, worked, doubled, port_nos, came_to, WorkedWalks}
 use Rattle.demands.proofs.FourPorts.{four_ports, reads}
+use Rattle.std.specs.Prelude.{Ok}
 
 -- an answer that the rules lead to is given
-pub given : (s : List ℕ) (h : Header) → reading s ≡ Read h → (kind start target : ℕ) (crossed : List ℕ) (end : End)
+pub given : (s : List ℕ) (h : Header) → reading s ≡ Ok h → (kind start target : ℕ) (crossed : List ℕ) (end : End)
     → asked_wrongly (tree_of s) kind start target ≡ false
     → Walk (chassis_of s) (packet_of kind target) (starts_at (chassis_of s) (packet_of kind target) start) (port_nos crossed) end
     → WalkGives s kind start target (came_to end crossed)
-unfolding ended_walk
 given s h is kind start target crossed end right walk =
     rw is
     (rw right (
-      record { end = end; path = (came_to end crossed).path },
+      record { path = path_of (port_nos crossed); end = end },
       record { crossed = port_nos crossed; walk = walk; named = refl },
       refl,
     ))

@@ -5,6 +5,9 @@
 -- a refused patch counts as one that does not read".
 mod Words
 use Words.*
+use Rattle.routes.specs.declared.Walked.{Walked}
+use Rattle.picture.specs.declared.Refusal.{Refusal}
+use Rattle.std.specs.Prelude.{Result, Ok}
 
 -- one of a list of numbers
 abbrev pub one_of : List ℕ → ℕ → Bool
@@ -30,7 +33,7 @@ of_patch = 30 ∷ 31 ∷ 32 ∷ []
 pub record Demand1 (s : List ℕ) : Type 0 where
   pub reads : one_of of_reading (number_of (reading s)) ≡ true
   pub check : one_of of_check (check_number (check_answer s)) ≡ true
-  pub walk : (kind start target : ℕ) (a : WalkAnswer) → WalkGives s kind start target a → one_of of_asking (outcome_number a.outcome) ≡ true
+  pub walk : (kind start target : ℕ) (a : Result Walked Refusal) → WalkGives s kind start target a → one_of of_asking (outcome_number a) ≡ true
   pub claim : (port kind target : ℕ) → one_of of_asking (claim_number (claim_answer s port kind target)) ≡ true
   pub convert : (port target : ℕ) → one_of of_asking (convert_number (convert_answer s port target)) ≡ true
 
@@ -38,8 +41,8 @@ pub record Demand1 (s : List ℕ) : Type 0 where
 pub record Trial1 (s patch : List ℕ) : Type 0 where
   pub reads : one_of (of_reading ++ of_patch) (number_of (reading_with s patch)) ≡ true
   pub check : one_of (of_check ++ of_patch) (check_number (trial_check s patch)) ≡ true
-  pub walk : (kind start target : ℕ) (a : WalkAnswer) → TrialGives s patch kind start target a
-      → one_of (of_asking ++ of_patch) (outcome_number a.outcome) ≡ true
+  pub walk : (kind start target : ℕ) (a : Result Walked Refusal) → TrialGives s patch kind start target a
+      → one_of (of_asking ++ of_patch) (outcome_number a) ≡ true
   pub part : (port : ℕ) (m : Mechanism) → one_of (of_asking ++ of_patch) (part_number (trial_part s patch port m)) ≡ true
 
 -- and "an answer buffer too short stays untouched": what the controller's calls return, and the buffer after them, is one for each
@@ -61,33 +64,33 @@ pub record Names (path : Path) (ports : List PortNo) : Type 0 where
   pub places : (unused : ℕ) × (path.places ≡ ports ++ replicate unused no_port) × (length path.places ≡ 32)
 
 -- the walk has an answer, it has only one, and where that ends, it is where the rules lead, and its path names the ports crossed
-pub record WalksIn (c : Chassis) (Gives : ℕ → ℕ → ℕ → WalkAnswer → Type 0) : Type 0 where
-  pub answers : (kind start target : ℕ) → (a : WalkAnswer) × Gives kind start target a
-  pub only : (kind start target : ℕ) (a b : WalkAnswer) → Gives kind start target a → Gives kind start target b → a ≡ b
-  pub named : (kind start target : ℕ) (a : WalkAnswer) (e : End) → Gives kind start target a → a.outcome ≡ Ended e
-      → (crossed : List PortNo) × Walk c (packet_of kind target) (starts_at c (packet_of kind target) start) crossed e × Names a.path crossed
+pub record WalksIn (c : Chassis) (Gives : ℕ → ℕ → ℕ → Result Walked Refusal → Type 0) : Type 0 where
+  pub answers : (kind start target : ℕ) → (a : Result Walked Refusal) × Gives kind start target a
+  pub only : (kind start target : ℕ) (a b : Result Walked Refusal) → Gives kind start target a → Gives kind start target b → a ≡ b
+  pub named : (kind start target : ℕ) (w : Walked) → Gives kind start target (Ok w)
+      → (crossed : List PortNo) × Walk c (packet_of kind target) (starts_at c (packet_of kind target) start) crossed w.end × Names w.path crossed
 
 -- Demand 2: "For every picture that reads, what each port claims, how a configuration request is converted and where each packet ends
 -- are as the FPB and ARI change notices say .. with every port crossed named in order": each claim and each conversion is the
 -- definition's, and so is the walk. 02, Item 3: "The claim answer must name all decoders that claim the target, not yes or no.
 -- Everything that asked yes or no now means "at least one"."
 pub record Demand2 (s : List ℕ) : Type 0 where
-  pub claims : (h : Header) → reading s ≡ Read h → (port kind target : ℕ) → claim_asked_wrongly h.count port kind target ≡ false
-      → claim_answer s port kind target ≡ Claimed (hold_of (chassis_of s) (target_asked kind target) port)
+  pub claims : (h : Header) → reading s ≡ Ok h → (port kind target : ℕ) → claim_asked_wrongly h.count port kind target ≡ false
+      → claim_answer s port kind target ≡ Ok (hold_of (chassis_of s) (target_asked kind target) port)
   pub joined : (port : ℕ) (t : Target) → (chassis_of s).claims port t ≡ at_least_one ((chassis_of s).decoders port t)
   pub held : (port : ℕ) (t : Target) → holds (chassis_of s) t port ≡ is_held (hold_of (chassis_of s) t port)
-  pub converts : (h : Header) → reading s ≡ Read h → (port target : ℕ) → convert_asked_wrongly h.count port target ≡ false
-      → convert_answer s port target ≡ Converted ((chassis_of s).conversion port (Id (record { 0 = target })))
+  pub converts : (h : Header) → reading s ≡ Ok h → (port target : ℕ) → convert_asked_wrongly h.count port target ≡ false
+      → convert_answer s port target ≡ Ok ((chassis_of s).conversion port (Id (record { 0 = target })))
   pub walks : WalksIn (chassis_of s) (WalkGives s)
 
 -- the same of a picture and a patch: the picture with the vectors put in reads, its registers are the picture's, and each of its
 -- vectors is the part handed out; demand 2 holds of it, and the walk is the one in it
 pub record Trial2 (s patch : List ℕ) : Type 0 where
-  pub reads : (h : Header) → reading_with s patch ≡ Read h → reading (patched s patch) ≡ Read h
-  pub registers : (h : Header) → reading_with s patch ≡ Read h → (port : ℕ) → port < h.count → port_at (patched s patch) port ≡ port_at s port
-  pub lies : (h : Header) → reading_with s patch ≡ Read h → (port : ℕ) → port < h.count → (m : Mechanism)
-      → trial_part s patch port m ≡ Lies (place_of s patch port m)
-  pub vectors : (h : Header) → reading_with s patch ≡ Read h → (port : ℕ) → port < h.count → (m : Mechanism)
+  pub reads : (h : Header) → reading_with s patch ≡ Ok h → reading (patched s patch) ≡ Ok h
+  pub registers : (h : Header) → reading_with s patch ≡ Ok h → (port : ℕ) → port < h.count → port_at (patched s patch) port ≡ port_at s port
+  pub lies : (h : Header) → reading_with s patch ≡ Ok h → (port : ℕ) → port < h.count → (m : Mechanism)
+      → trial_part s patch port m ≡ Ok (place_of s patch port m)
+  pub vectors : (h : Header) → reading_with s patch ≡ Ok h → (port : ℕ) → port < h.count → (m : Mechanism)
       → vector_of (patched s patch) port m ≡ part_at (place_of s patch port m) s patch
   pub picture : Demand2 (patched s patch)
   pub walks : WalksIn (chassis_of (patched s patch)) (TrialGives s patch)
@@ -95,7 +98,7 @@ pub record Trial2 (s patch : List ℕ) : Type 0 where
 -- Demand 3: "For any picture that passes the check and any ID or address: from the host and from every device port it comes to the same
 -- end, in at most 32 crossings, and no place on the way has two holders" (but a device port that itself claims the target refuses
 -- its own device). 02, Item 8: "Demand 3 holds with the new paths, 32 crossings still."
-abbrev pub PassesFor : CheckAnswer → Chassis → Type 0
+abbrev pub PassesFor : Result Verdict Refusal → Chassis → Type 0
 PassesFor a c = check_number a ≡ 0 → (t : Target) → InRange t → OneEnd c t
 
 abbrev pub Demand3 : List ℕ → Type 0
@@ -112,9 +115,9 @@ pub record Overlap (c : Chassis) : Type 0 where
 
 -- Its other half: "a picture that reads fails for overlap exactly if some ID or address has two sibling holders, or some port claims
 -- its own ID; the least such target is shown, with its ports"
-pub record FailsExactly (got : Reading) (a : CheckAnswer) (c : Chassis) : Type 0 where
-  pub exactly : (h : Header) → got ≡ Read h → ((check_number a ≡ 11) ⊎ (check_number a ≡ 12)) ↔ Overlap c
-  pub shown : (v : Verdict) → a ≡ Judged v → Says c v
+pub record FailsExactly (got : Result Header Refusal) (a : Result Verdict Refusal) (c : Chassis) : Type 0 where
+  pub exactly : (h : Header) → got ≡ Ok h → ((check_number a ≡ 11) ⊎ (check_number a ≡ 12)) ↔ Overlap c
+  pub shown : (v : Verdict) → a ≡ Ok v → Says c v
 
 abbrev pub OverlapExactly : List ℕ → Type 0
 OverlapExactly s = FailsExactly (reading s) (check_answer s) (chassis_of s)
@@ -127,10 +130,10 @@ TrialOverlap s patch = FailsExactly (reading_with s patch) (trial_check s patch)
 abbrev pub Bytes : List ℕ → Type 0
 Bytes s = (i : ℕ) → get_or s i 0 < 2 ^ 8
 
-abbrev pub FindsEach : CheckAnswer → Chassis → (ℕ → ℕ → ℕ → WalkAnswer → Type 0) → Type 0
+abbrev pub FindsEach : Result Verdict Refusal → Chassis → (ℕ → ℕ → ℕ → Result Walked Refusal → Type 0) → Type 0
 FindsEach a c Gives =
     check_number a ≡ 0 → (p : ℕ) → p < c.tree.count
-    → (x : WalkAnswer) × Gives 2 255 (c.own_id p) x × (x.outcome ≡ Ended (Function (port_no p)))
+    → (w : Walked) × Gives 2 255 (c.own_id p) (Ok w) × (w.end ≡ Function (port_no p))
 
 abbrev pub EveryPortFound : List ℕ → Type 0
 EveryPortFound s = Bytes s → FindsEach (check_answer s) (chassis_of s) (WalkGives s)

@@ -1,7 +1,6 @@
 -- 02, Item 11, of the very definitions that the history calls promise. The proofs are in proofs/Histories.antt, under the same names in
 -- small letters (history_numbers, history_added, history_wound_back, history_refused, history_read_back, history_named).
-use Rattle.std.specs.Prelude.{ℕ, suc, ◌+◌, ◌<◌, ◌≤◌, true, List, [], ◌∷◌, ◌++◌, ◌↔◌, ◌≡◌, length, get_or, take, drop}
-use Rattle.least.specs.declared.Found.TheVariants.{At}
+use Rattle.std.specs.Prelude.{ℕ, suc, ◌+◌, ◌<◌, ◌≤◌, true, List, [], ◌∷◌, ◌++◌, ◌↔◌, ◌≡◌, length, get_or, take, drop, Some}
 use Rattle.changes.specs.declared.Change.{Change}
 use Rattle.changes.specs.Change.{byte_named}
 use Rattle.changes.specs.Versions.{change_at, made_up_to, version}
@@ -19,7 +18,7 @@ pub record HistoryNumbers (first : List ℕ) : Type 0 where
 -- what a change did between version k and the next: the byte that it names held the old byte, and holds the new one
 pub record Did (first : List ℕ) (room : List Change) (c : Change) (k : ℕ) : Type 0 where
   pub place : ℕ
-  pub names : byte_named first c ≡ At place
+  pub names : byte_named first c ≡ Some place
   pub old_there : get_or (version first room k) place 0 ≡ c.old_byte
   pub new_there : get_or (version first room (suc k)) place 0 ≡ c.new_byte
 
@@ -61,7 +60,7 @@ HistoryReadBack first =
 
 -- a first picture's "layout places every byte": each byte behind the header is named and no other, and by one port, part and place alone
 pub record HistoryNamed (first : List ℕ) : Type 0 where
-  pub within : (c : Change) (x : ℕ) → byte_named first c ≡ At x → (16 ≤ x) × (x < length first)
-  pub all : (x : ℕ) → 16 ≤ x → x < length first → (c : Change) × (byte_named first c ≡ At x)
-  pub once : (c d : Change) (x : ℕ) → byte_named first c ≡ At x
-      → (byte_named first d ≡ At x) ↔ ((d.port ≡ c.port) × (d.part ≡ c.part) × (d.at ≡ c.at))
+  pub within : (c : Change) (x : ℕ) → byte_named first c ≡ Some x → (16 ≤ x) × (x < length first)
+  pub all : (x : ℕ) → 16 ≤ x → x < length first → (c : Change) × (byte_named first c ≡ Some x)
+  pub once : (c d : Change) (x : ℕ) → byte_named first c ≡ Some x
+      → (byte_named first d ≡ Some x) ↔ ((d.port ≡ c.port) × (d.part ≡ c.part) × (d.at ≡ c.at))

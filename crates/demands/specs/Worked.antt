@@ -4,15 +4,16 @@
 -- that differ in one register the host finds every port of one, which passes, and loses one of the other, whose only fault is 18
 -- (proofs/WorkedChain.antt). The switch in edition 2 passes too, and redirects (proofs/WorkedRedirect.antt). With patches, so that no
 -- trial is empty either: proofs/WorkedTrial.antt.
-use Rattle.std.specs.Prelude.{ℕ, zero, suc, ◌+◌, ◌*◌, ◌/◌, ◌%◌, List, [], ◌∷◌, ◌++◌}
+use Rattle.std.specs.Prelude.{ℕ, zero, suc, ◌+◌, ◌*◌, ◌/◌, ◌%◌, List, [], ◌∷◌, ◌++◌, Ok}
 use Rattle.chassis.specs.declared.End.{End}
 use Rattle.chassis.specs.declared.End.TheVariants.{Device, Function, Host, Unsupported, Doubled}
 use Rattle.ids.specs.Ids.{port_no}
 use Rattle.paths.specs.Paths.{path_of}
 use Rattle.ids.specs.declared.PortNo.{PortNo}
-use Rattle.judge.specs.declared.Outcome.TheVariants.{Ended}
-use Rattle.judge.specs.declared.WalkAnswer.{WalkAnswer}
 use Rattle.judge.specs.Walking.{WalkGives}
+use Rattle.routes.specs.declared.Walked.{Walked}
+use Rattle.picture.specs.declared.Refusal.{Refusal}
+use Rattle.std.specs.Prelude.{Result}
 
 unfoldable pub zeros : ℕ → List ℕ
 zeros zero = []
@@ -141,8 +142,8 @@ abbrev pub port_nos : List ℕ → List PortNo
 port_nos [] = []
 port_nos (p ∷ ps) = port_no p ∷ port_nos ps
 
-abbrev pub came_to : End → List ℕ → WalkAnswer
-came_to end crossed = record { outcome = Ended end; path = path_of (port_nos crossed) }
+abbrev pub came_to : End → List ℕ → Result Walked Refusal
+came_to end crossed = Ok (record { path = path_of (port_nos crossed); end = end })
 
 -- Walks through it, as the call answers them: packet kind (0 ID, 1 address, 2 configuration request), start, target.
 pub record WorkedWalks : Type 0 where

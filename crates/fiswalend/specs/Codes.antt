@@ -1,13 +1,11 @@
 -- What the claim call and the conversion call write for C: their bits and codes are of docs/DECISIONS.md, "Calls". A refusal writes
 -- nothing.
-use Rattle.std.specs.Prelude.{ℕ, ◌+◌, Bool, cond}
+use Rattle.std.specs.Prelude.{ℕ, ◌+◌, Bool, cond, Result, Ok, Err}
 use Rattle.chassis.specs.declared.Conversion.{Conversion}
 use Rattle.chassis.specs.declared.Conversion.TheVariants.{NotClaimed, Type0, Type1, Unsupported}
 use Rattle.chassis.specs.declared.Decoders.{Decoders}
-use Rattle.judge.specs.declared.ClaimAnswer.{ClaimAnswer}
-use Rattle.judge.specs.declared.ClaimAnswer.TheVariants.{Refused, Claimed}
-use Rattle.judge.specs.declared.ConvertAnswer.{ConvertAnswer}
-use Rattle.judge.specs.declared.ConvertAnswer.TheVariants.{Refused as NotConverted, Converted}
+use Rattle.chassis.specs.declared.Hold.{Hold}
+use Rattle.picture.specs.declared.Refusal.{Refusal}
 
 -- the decoders by their bits, from bit 0 on: bus, rid, mem, pref, low, high, vga
 abbrev pub bit_of : Bool → ℕ → ℕ
@@ -17,9 +15,9 @@ unfoldable pub decoder_bits : Decoders → ℕ
 decoder_bits d =
     bit_of d.bus 1 + bit_of d.rid 2 + bit_of d.mem 4 + bit_of d.pref 8 + bit_of d.low 16 + bit_of d.high 32 + bit_of d.vga 64
 
-abbrev pub claim_writes : ClaimAnswer → ℕ → ℕ
-claim_writes (Refused r) before = before
-claim_writes (Claimed h) before = decoder_bits h.decoders
+abbrev pub claim_writes : Result Hold Refusal → ℕ → ℕ
+claim_writes (Err r) before = before
+claim_writes (Ok h) before = decoder_bits h.decoders
 
 -- 0 not claimed, 1 Type 0, 2 Type 1, 3 Unsupported Request
 abbrev pub conversion_code : Conversion → ℕ
@@ -28,6 +26,6 @@ conversion_code Type0 = 1
 conversion_code Type1 = 2
 conversion_code Unsupported = 3
 
-abbrev pub convert_writes : ConvertAnswer → ℕ → ℕ
-convert_writes (NotConverted r) before = before
-convert_writes (Converted decided) before = conversion_code decided
+abbrev pub convert_writes : Result Conversion Refusal → ℕ → ℕ
+convert_writes (Err r) before = before
+convert_writes (Ok decided) before = conversion_code decided

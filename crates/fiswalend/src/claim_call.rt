@@ -5,7 +5,7 @@ ghost use Rattle.fiswalend.specs.Codes.{bit_of, decoder_bits};
 ghost use Rattle.fiswalend.specs.Calls.{ClaimCall};
 
 use chassis::Decoders;
-use judge::{ClaimAnswer, claim};
+use judge::claim;
 
 // The weight of a bit that is set, else 0.
 fn bit_of(claims: bool, weight: u32) -> u32
@@ -34,8 +34,8 @@ pub fn fpb_claim(picture: &[u8], port: u32, kind: u32, target: u64, decoders: &m
     ensures { ClaimCall (claim_answer picture.now port kind target) decoders.old result decoders.new }
 {
     match claim(picture, port, kind, target) {
-        ClaimAnswer::Refused(r) => r.number as u32,
-        ClaimAnswer::Claimed(h) => {
+        Err(r) => r.number as u32,
+        Ok(h) => {
             *decoders = decoder_bits(h.decoders);
             0
         }

@@ -5,7 +5,7 @@ ghost use Rattle.fiswalend.specs.Codes.{conversion_code};
 ghost use Rattle.fiswalend.specs.Calls.{ConvertCall};
 
 use chassis::Conversion;
-use judge::{ConvertAnswer, convert};
+use judge::convert;
 
 // What a port decides, by its code.
 fn conversion_code(decided: Conversion) -> u32
@@ -24,8 +24,8 @@ pub fn fpb_convert(picture: &[u8], port: u32, target: u64, decided: &mut u32) ->
     ensures { ConvertCall (convert_answer picture.now port target) decided.old result decided.new }
 {
     match convert(picture, port, target) {
-        ConvertAnswer::Refused(r) => r.number as u32,
-        ConvertAnswer::Converted(made) => {
+        Err(r) => r.number as u32,
+        Ok(made) => {
             *decided = conversion_code(made);
             0
         }

@@ -1,11 +1,10 @@
 // The 40 bytes of what a call found: a number, the ports that it names, and the target that it shows.
 ghost use Rattle.std.specs.Prelude.{◌≡◌};
-ghost use Rattle.chassis.specs.declared.Shown.TheVariants.{Least};
 ghost use Rattle.answers.specs.Answers.{answer_bytes};
 ghost use Rattle.fiswalend.specs.Found.{found_head, naming_head, shown_places, finding_bytes};
 
 use answers::{ANSWER_BYTES, Head, with_target, without_places};
-use chassis::{Finding, Named, Shown};
+use chassis::{Finding, Named};
 use ids::{PortNo, Target};
 
 // What is said of a finding: its number, and the ports that it names.
@@ -36,7 +35,7 @@ fn naming_head(number: u8, ports: Named) -> Head
 
 // An answer that shows a least target.
 fn showing(h: Head, t: Target) -> [u8; ANSWER_BYTES]
-    ensures { result ≡ answer_bytes h (shown_places (Least t)) }
+    ensures { result ≡ answer_bytes h (shown_places (Some t)) }
 {
     match t {
         Target::Id(rid) => with_target(h, rid.0 as u64),
@@ -53,7 +52,7 @@ pub fn finding_bytes(f: Finding) -> [u8; ANSWER_BYTES]
     let target = f.target;
     let head = naming_head(f.number, ports);
     match target {
-        Shown::NoTarget => without_places(head),
-        Shown::Least(t) => showing(head, t),
+        None => without_places(head),
+        Some(t) => showing(head, t),
     }
 }

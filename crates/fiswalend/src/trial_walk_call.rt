@@ -6,7 +6,7 @@ use crate::walked::walk_bytes;
 use answers::ANSWER_BYTES;
 
 // Where a packet would go with the patch's vectors put in: the number, and the answer in the buffer.
-#[tactic(auto, using(crate::proofs::WalkCalls::leaves_17, crate::proofs::WalkCalls::leaves_40))]
+#[tactic(auto, using(crate::proofs::WalkCalls::leaves_17))]
 pub fn fpb_trial_walk<'a>(
     picture: &'a [u8],
     patch: &'a [u8],

@@ -1,12 +1,14 @@
 // The 40 bytes of a walk's answer.
-ghost use Rattle.std.specs.Prelude.{◌≡◌, ◌<◌};
+ghost use Rattle.std.specs.Prelude.{◌≡◌, ◌<◌, IfOk};
 ghost use Rattle.fiswalend.specs.Walked.{row as Walked·row, end_head, walk_bytes};
 
 use crate::found::finding_bytes;
 use answers::{ANSWER_BYTES, Head, with_path};
 use chassis::End;
 use ids::PortNo;
-use judge::{Outcome, WalkAnswer, refusal_finding};
+use judge::refusal_finding;
+use picture::Refusal;
+use routes::Walked;
 
 // A row of the table of ends; an end's number is 0.
 fn row(end: u8, port: PortNo, second: PortNo, crossings: u8, function: u8) -> Head
@@ -37,16 +39,15 @@ fn end_head(e: End, crossings: u8) -> Head
 
 // A refusal, or the end and the ports crossed.
 #[tactic(auto, unfolding(crate::specs::Walked::walk_bytes))]
-pub fn walk_bytes(a: WalkAnswer) -> [u8; ANSWER_BYTES]
-    requires { a.path.count < 256 }
-    ensures { result ≡ walk_bytes a }
+pub fn walk_bytes(answer: Result<Walked, Refusal>) -> [u8; ANSWER_BYTES]
+    requires { IfOk answer (λ w. w.path.count < 256) }
+    ensures { result ≡ walk_bytes answer }
 {
-    let outcome = a.outcome;
-    let path = a.path;
-    let crossings = path.count as u8;
-    let places = path.places;
-    match outcome {
-        Outcome::Refused(r) => finding_bytes(refusal_finding(r)),
-        Outcome::Ended(e) => with_path(end_head(e, crossings), places),
+    match answer {
+        Err(r) => finding_bytes(refusal_finding(r)),
+        Ok(w) => {
+            let path = w.path;
+            with_path(end_head(w.end, path.count as u8), path.places)
+        }
     }
 }

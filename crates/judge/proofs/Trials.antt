@@ -13,8 +13,6 @@ use Rattle.chassis.proofs.AlikeWalks.{walk_alike, starts_alike}
 use Rattle.chassis.proofs.Tree.{Sane}
 use Rattle.picture.specs.declared.Header.{Header}
 use Rattle.picture.specs.declared.Refusal.{Refusal}
-use Rattle.picture.specs.declared.Reading.{Reading}
-use Rattle.picture.specs.declared.Reading.TheVariants.{Read, Refused as NotRead}
 use Rattle.picture.specs.Reading.{reading}
 use Rattle.picture.proofs.Laws.{count_of_lem}
 use Rattle.picture.proofs.WhatReads.{reads_sane}
@@ -26,14 +24,14 @@ use Rattle.patches.proofs.PatchedReads.{trees_patched, patched_reads}
 use Rattle.claims.specs.Claims.{chassis_of}
 use Rattle.claims.specs.Over.{chassis_over}
 use Rattle.claims.proofs.Over.{alike_patched, redirect_patched}
-use Rattle.judge.specs.declared.CheckAnswer.TheVariants.{Judged}
-use Rattle.judge.specs.declared.WalkAnswer.{WalkAnswer}
 use Rattle.judge.specs.Checking.{check_of}
 use Rattle.judge.specs.Trying.{tried_check, trial_check, TriedGives, TrialGives}
-use Rattle.judge.specs.Walking.{packet_of, is_start, asked_wrongly, refused_walk, AskedGives}
+use Rattle.judge.specs.Walking.{packet_of, is_start, asked_wrongly, AskedGives}
 use Rattle.judge.proofs.Walks.{walk_only, gives_read, started, within_start}
+use Rattle.std.specs.Prelude.{Result, Ok, Err}
+use Rattle.routes.specs.declared.Walked.{Walked}
 
-module _ (s patch : List ℕ) (h : Header) (read : reading_with s patch ≡ Read h) where
+module _ (s patch : List ℕ) (h : Header) (read : reading_with s patch ≡ Ok h) where
   abbrev taken : Accepted s patch h
   taken = accepted s patch h read
 
@@ -50,17 +48,17 @@ module _ (s patch : List ℕ) (h : Header) (read : reading_with s patch ≡ Read
   few_tried = rw count_tried taken.few
 
   -- the picture with the vectors put in reads
-  pub patched_read : reading s' ≡ Read h
+  pub patched_read : reading s' ≡ Ok h
   patched_read = patched_reads s patch h taken
 
   alike : Alike (chassis_over s patch) (chassis_of s')
   alike = alike_patched s patch h taken
 
   -- the check's answer
-  pub trial_judged : Judged (verdict_of (chassis_over s patch)) ≡ trial_check s patch
+  pub trial_judged : Ok (verdict_of (chassis_over s patch)) ≡ trial_check s patch
   unfolding tried_check check_of
   trial_judged =
-      rw (read, patched_read) (ap Judged (verdict_alike (chassis_over s patch) (chassis_of s') alike sane_tried))
+      rw (read, patched_read) (ap Ok (verdict_alike (chassis_over s patch) (chassis_of s') alike sane_tried))
 
   module _ (kind start target : ℕ) where
     same_asked : asked_wrongly (tree_of s) kind start target ≡ asked_wrongly (tree_of s') kind start target
@@ -70,7 +68,7 @@ module _ (s patch : List ℕ) (h : Header) (read : reading_with s patch ≡ Read
     abbrev packet : Packet
     packet = packet_of kind target
 
-    carried : (a : WalkAnswer) (wrong : Bool) → asked_wrongly (tree_of s) kind start target ≡ wrong
+    carried : (a : Result Walked Refusal) (wrong : Bool) → asked_wrongly (tree_of s) kind start target ≡ wrong
         → AskedGives wrong (chassis_over s patch) kind start target a → AskedGives wrong (chassis_of s') kind start target a
     carried a true asked gives = gives
     carried a false asked gives = (
@@ -89,25 +87,25 @@ module _ (s patch : List ℕ) (h : Header) (read : reading_with s patch ≡ Read
     )
 
     -- and the walk's
-    pub trial_walked : (a : WalkAnswer) → AskedGives (asked_wrongly (tree_of s) kind start target) (chassis_over s patch) kind start target a
+    pub trial_walked : (a : Result Walked Refusal) → AskedGives (asked_wrongly (tree_of s) kind start target) (chassis_over s patch) kind start target a
         → TrialGives s patch kind start target a
     trial_walked a gives =
-        subst (λ (got : Reading). TriedGives got s' kind start target a) (sym read)
+        subst (λ (got : Result Header Refusal). TriedGives got s' kind start target a) (sym read)
         (gives_read s' kind start target a h patched_read
         (subst (λ (wrong : Bool). AskedGives wrong (chassis_of s') kind start target a) same_asked
         (carried a (asked_wrongly (tree_of s) kind start target) refl gives)))
 
 -- a refused picture or patch
-pub trial_unread : (s patch : List ℕ) (kind start target : ℕ) (a : WalkAnswer) (r : Refusal) → reading_with s patch ≡ NotRead r
-    → a ≡ refused_walk r → TrialGives s patch kind start target a
+pub trial_unread : (s patch : List ℕ) (kind start target : ℕ) (a : Result Walked Refusal) (r : Refusal) → reading_with s patch ≡ Err r
+    → a ≡ Err r → TrialGives s patch kind start target a
 trial_unread s patch kind start target a r unread e =
-    subst (λ (got : Reading). TriedGives got (patched s patch) kind start target a) (sym unread) e
+    subst (λ (got : Result Header Refusal). TriedGives got (patched s patch) kind start target a) (sym unread) e
 
 -- the trial walk has one answer
-pub trial_only : (s patch : List ℕ) (kind start target : ℕ) (a b : WalkAnswer) → TrialGives s patch kind start target a
+pub trial_only : (s patch : List ℕ) (kind start target : ℕ) (a b : Result Walked Refusal) → TrialGives s patch kind start target a
     → TrialGives s patch kind start target b → a ≡ b
 trial_only s patch kind start target a b = go (reading_with s patch)
   where
-    go : (got : Reading) → TriedGives got (patched s patch) kind start target a → TriedGives got (patched s patch) kind start target b → a ≡ b
-    go (NotRead r) x y = x ∙ sym y
-    go (Read h) x y = walk_only (patched s patch) kind start target a b x y
+    go : (got : Result Header Refusal) → TriedGives got (patched s patch) kind start target a → TriedGives got (patched s patch) kind start target b → a ≡ b
+    go (Err r) x y = x ∙ sym y
+    go (Ok h) x y = walk_only (patched s patch) kind start target a b x y

@@ -21,8 +21,6 @@ use Rattle.chassis.proofs.Walks.{walk_one}
 use Rattle.paths.specs.Paths.{path_of}
 use Rattle.picture.specs.declared.Header.{Header}
 use Rattle.picture.specs.declared.Refusal.{Refusal}
-use Rattle.picture.specs.declared.Reading.{Reading}
-use Rattle.picture.specs.declared.Reading.TheVariants.{Read, Refused as NotRead}
 use Rattle.picture.specs.Reading.{reading}
 use Rattle.trees.specs.Trees.{tree_of}
 use Rattle.claims.specs.Claims.{chassis_of}
@@ -30,10 +28,10 @@ use Rattle.claims.specs.Over.{chassis_over}
 use Rattle.claims.proofs.Over.{unpatched}
 use Rattle.routes.specs.declared.Walked.{Walked}
 use Rattle.routes.specs.Routes.{Arrives}
-use Rattle.judge.specs.declared.WalkAnswer.{WalkAnswer}
 use Rattle.judge.specs.Refusals.{number16}
 use Rattle.judge.specs.Asking.{id_too_large}
-use Rattle.judge.specs.Walking.{packet_of, is_start, asked_wrongly, refused_walk, ended_walk, AskedGives, ReadGives, WalkGives}
+use Rattle.judge.specs.Walking.{packet_of, is_start, asked_wrongly, AskedGives, ReadGives, WalkGives}
+use Rattle.std.specs.Prelude.{Result, Ok, Err}
 
 module _ (tree : Tree) (kind start target : ℕ) (asked : asked_wrongly tree kind start target ≡ false) where
   parts : ((ltb 2 kind || id_too_large kind target) ≡ false) × (not (is_start tree start) ≡ false)
@@ -81,42 +79,42 @@ arrives_one a b x y =
     λ i. record { path = (x.named ∙ ap path_of one.0 ∙ sym y.named) i; end = one.1 i }
 
 -- the walk call has one answer
-pub walk_only : (s : List ℕ) (kind start target : ℕ) (a b : WalkAnswer) → WalkGives s kind start target a → WalkGives s kind start target b → a ≡ b
+pub walk_only : (s : List ℕ) (kind start target : ℕ) (a b : Result Walked Refusal) → WalkGives s kind start target a → WalkGives s kind start target b → a ≡ b
 walk_only s kind start target a b = read (reading s)
   where
     asked : (wrong : Bool) → AskedGives wrong (chassis_of s) kind start target a → AskedGives wrong (chassis_of s) kind start target b → a ≡ b
     asked true x y = x ∙ sym y
-    asked false x y = x.2 ∙ ap ended_walk (arrives_one x.0 y.0 x.1 y.1) ∙ sym y.2
+    asked false x y = x.2 ∙ ap Ok (arrives_one x.0 y.0 x.1 y.1) ∙ sym y.2
 
-    read : (got : Reading) → ReadGives got s kind start target a → ReadGives got s kind start target b → a ≡ b
-    read (NotRead r) x y = x ∙ sym y
-    read (Read h) x y = asked (asked_wrongly (chassis_of s).tree kind start target) x y
+    read : (got : Result Header Refusal) → ReadGives got s kind start target a → ReadGives got s kind start target b → a ≡ b
+    read (Err r) x y = x ∙ sym y
+    read (Ok h) x y = asked (asked_wrongly (chassis_of s).tree kind start target) x y
 
 -- the two ways in which a call ends that has read
-module _ (c : Chassis) (kind start target : ℕ) (answer : WalkAnswer) where
+module _ (c : Chassis) (kind start target : ℕ) (answer : Result Walked Refusal) where
   abbrev Gives : Bool → Type 0
   Gives wrong = AskedGives wrong c kind start target answer
 
-  pub gives_16 : asked_wrongly c.tree kind start target ≡ true → answer ≡ refused_walk number16 → Gives (asked_wrongly c.tree kind start target)
+  pub gives_16 : asked_wrongly c.tree kind start target ≡ true → answer ≡ Err number16 → Gives (asked_wrongly c.tree kind start target)
   gives_16 asked e = subst Gives (sym asked) e
 
   pub gives_end : {packet : Packet} {from : Whereabouts} (w : Walked) → asked_wrongly c.tree kind start target ≡ false
-      → packet ≡ packet_of kind target → from ≡ starts_at c packet start → Arrives c packet from w → answer ≡ ended_walk w
+      → packet ≡ packet_of kind target → from ≡ starts_at c packet start → Arrives c packet from w → answer ≡ Ok w
       → Gives (asked_wrongly c.tree kind start target)
   gives_end w asked what where-from arrives e =
       let from-there = where-from ∙ ap (λ (p : Packet). starts_at c p start) what in
       subst Gives (sym asked) (w, subst₂ (λ (p : Packet) (x : Whereabouts). Arrives c p x w) what from-there arrives, e)
 
 -- the two ways in which the walk call ends
-module _ (s : List ℕ) (kind start target : ℕ) (answer : WalkAnswer) where
-  pub gives_unread : (r : Refusal) → reading s ≡ NotRead r → answer ≡ refused_walk r → WalkGives s kind start target answer
-  gives_unread r unread e = subst (λ (got : Reading). ReadGives got s kind start target answer) (sym unread) e
+module _ (s : List ℕ) (kind start target : ℕ) (answer : Result Walked Refusal) where
+  pub gives_unread : (r : Refusal) → reading s ≡ Err r → answer ≡ Err r → WalkGives s kind start target answer
+  gives_unread r unread e = subst (λ (got : Result Header Refusal). ReadGives got s kind start target answer) (sym unread) e
 
-  pub gives_read : (h : Header) → reading s ≡ Read h → AskedGives (asked_wrongly (tree_of s) kind start target) (chassis_of s) kind start target answer
+  pub gives_read : (h : Header) → reading s ≡ Ok h → AskedGives (asked_wrongly (tree_of s) kind start target) (chassis_of s) kind start target answer
       → WalkGives s kind start target answer
-  gives_read h read gives = subst (λ (got : Reading). ReadGives got s kind start target answer) (sym read) gives
+  gives_read h read gives = subst (λ (got : Result Header Refusal). ReadGives got s kind start target answer) (sym read) gives
 
-  pub gives_alone : (h : Header) (none : List ℕ) → reading s ≡ Read h → none ≡ []
+  pub gives_alone : (h : Header) (none : List ℕ) → reading s ≡ Ok h → none ≡ []
       → AskedGives (asked_wrongly (tree_of s) kind start target) (chassis_over s none) kind start target answer → WalkGives s kind start target answer
   gives_alone h none read empty gives =
       gives_read h read

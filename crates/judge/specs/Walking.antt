@@ -1,6 +1,9 @@
 -- The walk call: numbers 1 to 10, then 16, then 01, "The walk".
 mod Words
 use Words.*
+use Rattle.routes.specs.declared.Walked.{Walked}
+use Rattle.picture.specs.declared.Refusal.{Refusal}
+use Rattle.std.specs.Prelude.{Result, Ok, Err}
 
 -- "packet kind 0 ID, 1 address, 2 configuration request"
 unfoldable pub packet_of : ℕ → ℕ → Packet
@@ -13,23 +16,16 @@ is_start tree start = eqb start root || is_device_port tree start
 unfoldable pub asked_wrongly : Tree → ℕ → ℕ → ℕ → Bool
 asked_wrongly tree kind start target = ltb 2 kind || id_too_large kind target || not (is_start tree start)
 
--- a refusal crosses nothing
-unfoldable pub refused_walk : Refusal → WalkAnswer
-refused_walk r = record { outcome = Refused r; path = path_of [] }
-
-unfoldable pub ended_walk : Walked → WalkAnswer
-ended_walk w = record { outcome = Ended w.end; path = w.path }
-
 -- what the call gives: the refusal, or the end and the path to which the rules lead
-abbrev pub AskedGives : Bool → Chassis → ℕ → ℕ → ℕ → WalkAnswer → Type 0
-AskedGives true c kind start target answer = answer ≡ refused_walk number16
+abbrev pub AskedGives : Bool → Chassis → ℕ → ℕ → ℕ → Result Walked Refusal → Type 0
+AskedGives true c kind start target answer = answer ≡ Err number16
 AskedGives false c kind start target answer =
-    (w : Walked) × Arrives c (packet_of kind target) (starts_at c (packet_of kind target) start) w × (answer ≡ ended_walk w)
+    (w : Walked) × Arrives c (packet_of kind target) (starts_at c (packet_of kind target) start) w × (answer ≡ Ok w)
 
-abbrev pub ReadGives : Reading → List ℕ → ℕ → ℕ → ℕ → WalkAnswer → Type 0
-ReadGives (NotRead r) s kind start target answer = answer ≡ refused_walk r
-ReadGives (Read h) s kind start target answer =
+abbrev pub ReadGives : Result Header Refusal → List ℕ → ℕ → ℕ → ℕ → Result Walked Refusal → Type 0
+ReadGives (Err r) s kind start target answer = answer ≡ Err r
+ReadGives (Ok h) s kind start target answer =
     AskedGives (asked_wrongly (chassis_of s).tree kind start target) (chassis_of s) kind start target answer
 
-abbrev pub WalkGives : List ℕ → ℕ → ℕ → ℕ → WalkAnswer → Type 0
+abbrev pub WalkGives : List ℕ → ℕ → ℕ → ℕ → Result Walked Refusal → Type 0
 WalkGives s kind start target answer = ReadGives (reading s) s kind start target answer

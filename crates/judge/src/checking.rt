@@ -2,30 +2,26 @@
 ghost use Rattle.std.specs.Prelude.{◌≡◌};
 ghost use Rattle.judge.specs.Checking.{check_answer, check_finding};
 
-use crate::CheckAnswer;
-use crate::refusals::{refusal_finding, refusal_of};
-use chassis::{Finding, finding_of};
-use picture::Reading;
+use crate::refusals::refusal_finding;
+use chassis::{Finding, Verdict, finding_of};
+use picture::Refusal;
 
 // Numbers 1 to 10, then 11 to 15 and 18 with the least target and its ports, else clear.
 #[tactic(auto, using(picture::proofs::WhatReads::count_few, picture::proofs::WhatReads::count_read, claims::proofs::Over::unpatched), unfolding(crate::specs::Checking::check_of))]
-pub fn check(s: &[u8]) -> CheckAnswer
+pub fn check(s: &[u8]) -> Result<Verdict, Refusal>
     ensures { result ≡ check_answer s.now }
 {
-    let got = picture::read(s);
-    let Reading::Read(h) = got else {
-        return CheckAnswer::Refused(refusal_of(got));
-    };
-    CheckAnswer::Judged(verdicts::verdict(s, patches::none(s), h.count as u8))
+    let h = picture::read(s)?;
+    Ok(verdicts::verdict(s, patches::none(s), h.count as u8))
 }
 
 // What is said of the check's answer: the number, the target that it shows and the ports that it names.
 #[tactic(auto, unfolding(crate::specs::Checking::check_finding))]
-pub fn check_finding(a: CheckAnswer) -> Finding
+pub fn check_finding(a: Result<Verdict, Refusal>) -> Finding
     ensures { result ≡ check_finding a }
 {
     match a {
-        CheckAnswer::Refused(r) => refusal_finding(r),
-        CheckAnswer::Judged(v) => finding_of(v),
+        Err(r) => refusal_finding(r),
+        Ok(v) => finding_of(v),
     }
 }

@@ -2,11 +2,11 @@
 ghost use Rattle.std.specs.Prelude.{◌≡◌};
 ghost use Rattle.judge.specs.Converting.{convert_asked_wrongly, convert_answer};
 
-use crate::ConvertAnswer;
 use crate::asking::id_too_large;
-use crate::refusals::{number_16, refusal_of};
+use crate::refusals::number_16;
+use chassis::Conversion;
 use ids::{PortNo, Rid, Target};
-use picture::Reading;
+use picture::Refusal;
 
 // Number 16; kind 0 is an ID.
 #[tactic(auto, unfolding(crate::specs::Converting::convert_asked_wrongly))]
@@ -18,17 +18,14 @@ fn convert_asked_wrongly(count: u32, port: u32, target: u64) -> bool
 
 // Numbers 1 to 10, then 16, else what the port makes of the request.
 #[tactic(auto, using(crate::proofs::Asked::convert_fits, picture::proofs::WhatReads::count_few, claims::proofs::Over::unpatched), unfolding(crate::specs::Converting::convert_of))]
-pub fn convert(s: &[u8], port: u32, target: u64) -> ConvertAnswer
+pub fn convert(s: &[u8], port: u32, target: u64) -> Result<Conversion, Refusal>
     ensures { result ≡ convert_answer s.now port target }
 {
-    let got = picture::read(s);
-    let Reading::Read(h) = got else {
-        return ConvertAnswer::Refused(refusal_of(got));
-    };
+    let h = picture::read(s)?;
     if convert_asked_wrongly(h.count as u32, port, target) {
-        return ConvertAnswer::Refused(number_16());
+        return Err(number_16());
     }
-    ConvertAnswer::Converted(claims::conversion(
+    Ok(claims::conversion(
         s,
         patches::none(s),
         PortNo(port as u8),

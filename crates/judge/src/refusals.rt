@@ -1,23 +1,11 @@
 // The refusals that the calls share: those of the reading, and number 16; and what is said of a refusal.
 ghost use Rattle.std.specs.Prelude.{◌≡◌};
-ghost use Rattle.picture.specs.declared.Reading.TheVariants.{Refused};
 ghost use Rattle.picture.specs.declared.Refusal.{Refusal};
 ghost use Rattle.judge.specs.Refusals.{number16, refusal_finding};
 
-use chassis::{Finding, Named, Shown};
+use chassis::{Finding, Named};
 use ids::PortNo;
-use picture::{Reading, Refusal};
-
-// The refusal of a picture or a patch that does not read.
-#[tactic(auto, using(least::proofs::Laws::impossible))]
-pub fn refusal_of(got: Reading) -> Refusal
-    ensures { (told : Refusal) → got ≡ Refused told → result ≡ told }
-{
-    match got {
-        Reading::Read(_) => number_16(),
-        Reading::Refused(r) => r,
-    }
-}
+use picture::Refusal;
 
 // The refusal of a call that asks for what the picture does not have.
 pub fn number_16() -> Refusal
@@ -48,7 +36,7 @@ pub fn refusal_finding(r: Refusal) -> Finding
 {
     Finding {
         number: r.number,
-        target: Shown::NoTarget,
+        target: None,
         ports: named_by(r),
     }
 }

@@ -4,15 +4,13 @@ ghost use Rattle.chassis.proofs.Tree.{Sane};
 ghost use Rattle.trees.specs.Trees.{count_of, tree_of};
 ghost use Rattle.claims.specs.Over.{chassis_over};
 ghost use Rattle.judge.specs.Asking.{id_too_large};
-ghost use Rattle.judge.specs.Walking.{packet_of, is_start, asked_wrongly, refused_walk, ended_walk, AskedGives, WalkGives};
+ghost use Rattle.judge.specs.Walking.{packet_of, is_start, asked_wrongly, AskedGives, WalkGives};
 
 use crate::asking::{id_too_large, target_asked};
-use crate::refusals::{number_16, refusal_of};
-use crate::{Outcome, WalkAnswer};
+use crate::refusals::number_16;
 use chassis::Packet;
 use ids::{PortNo, Rid};
-use paths::Path;
-use picture::{Reading, Refusal};
+use picture::Refusal;
 use routes::Walked;
 
 // The start of a packet that comes from the host.
@@ -55,30 +53,6 @@ fn asked_wrongly(s: &[u8], n: u8, kind: u32, start: u32, target: u64) -> bool
     (2 < kind) | id_too_large(kind, target) | !is_start(s, n, start)
 }
 
-// The answer of a call that is refused: nothing is crossed.
-#[tactic(auto, unfolding(crate::specs::Walking::refused_walk))]
-pub fn refused(r: Refusal) -> WalkAnswer
-    ensures { result ≡ refused_walk r }
-{
-    WalkAnswer {
-        outcome: Outcome::Refused(r),
-        path: Path::new(),
-    }
-}
-
-// The answer of a walk that came to its end.
-#[tactic(auto, unfolding(crate::specs::Walking::ended_walk))]
-fn ended(w: Walked) -> WalkAnswer
-    ensures { result ≡ ended_walk w }
-{
-    let end = w.end;
-    let path = w.path;
-    WalkAnswer {
-        outcome: Outcome::Ended(end),
-        path,
-    }
-}
-
 // Number 16, else where the packet ends, with every port crossed, over a picture of n ports that reads and a patch.
 #[tactic(auto, using(crate::proofs::Walks::gives_16, crate::proofs::Walks::gives_end, crate::proofs::Walks::id_fits, crate::proofs::Walks::small_start, crate::proofs::Walks::within_start))]
 pub fn walk_over<'a>(
@@ -88,27 +62,24 @@ pub fn walk_over<'a>(
     kind: u32,
     start: u32,
     target: u64,
-) -> WalkAnswer
+) -> Result<Walked, Refusal>
     requires n_value { n ≡ count_of s.now }
     requires sane { Sane (tree_of s.now) }
     ensures { AskedGives (asked_wrongly (tree_of s.now) kind start target) (chassis_over s.now patch.now) kind start target result }
 {
     if asked_wrongly(s, n, kind, start, target) {
-        return refused(number_16());
+        return Err(number_16());
     }
     let packet = packet_of(kind, target);
     let from = routes::starts_at(s, patch, packet, PortNo(start as u8));
-    ended(routes::walk_from(s, patch, n, packet, from))
+    Ok(routes::walk_from(s, patch, n, packet, from))
 }
 
 // Numbers 1 to 10, then 16, else where the packet ends, with every port crossed.
 #[tactic(auto, using(picture::proofs::WhatReads::count_few, picture::proofs::WhatReads::count_read, crate::proofs::Walks::gives_alone, crate::proofs::Walks::gives_unread, picture::proofs::WhatReads::sane_read))]
-pub fn walk(s: &[u8], kind: u32, start: u32, target: u64) -> WalkAnswer
+pub fn walk(s: &[u8], kind: u32, start: u32, target: u64) -> Result<Walked, Refusal>
     ensures { WalkGives s.now kind start target result }
 {
-    let got = picture::read(s);
-    let Reading::Read(h) = got else {
-        return refused(refusal_of(got));
-    };
+    let h = picture::read(s)?;
     walk_over(s, patches::none(s), h.count as u8, kind, start, target)
 }

@@ -6,8 +6,6 @@ use native.Mathlib.Nat.{le_antisymm}
 use native.Mathlib.Numerals.{add-one}
 use Rattle.ids.specs.declared.Space.{Space}
 use Rattle.ids.specs.declared.Target.{Target}
-use Rattle.least.specs.declared.Found.{Found}
-use Rattle.least.specs.declared.Found.TheVariants.{Nothing}
 use Rattle.least.specs.Least.{soonest}
 use Rattle.least.proofs.Laws.{none_is, first_agree, either_first, soonest_nothing}
 use Rattle.chassis.specs.Chassis.{Chassis, target_in, space_size}
@@ -18,6 +16,7 @@ use Rattle.chassis.specs.Tree.{root_port, any_below}
 use Rattle.chassis.proofs.Ports.{any_below_true, any_below_at}
 use Rattle.overlaps.specs.Overlaps.{meeting, clash_of, faulty_to}
 use Rattle.overlaps.proofs.Clashes.{clash_turned, first_side, second_side, clash_meets, no_clash, held, claimed, taken_by, stray_meets, no_stray, taken_meets, no_taken}
+use Rattle.std.specs.Prelude.{Option, None}
 
 -- the pairs of the first p ports, and of port p with the first q
 unfoldable pub seen : Chassis → ℕ → ℕ → Target → Bool
@@ -37,7 +36,7 @@ seen_before c t p l = go (any_below (clash c t p) p) refl
         rw (any_below_at (clashes_with c t) p q.number q.below row)
 
 module _ (c : Chassis) (space : Space) where
-  nothing_better : (best : Found) (test : Target → Bool) → ((n : ℕ) → test (target_in space n) ≡ false)
+  nothing_better : (best : Option ℕ) (test : Target → Bool) → ((n : ℕ) → test (target_in space n) ≡ false)
       → best ≡ soonest best (least_target test space)
   unfolding test_in
   nothing_better best test none = sym (soonest_nothing best) ∙ ap (soonest best) (none_is (record { none = λ i l h. none i }))
@@ -48,7 +47,7 @@ module _ (c : Chassis) (space : Space) where
   unfolding test_in clash_of
   pair_first p q e = first_agree (λ t l h. clash_meets c (target_in space t) p q e)
 
-  pub no_pair : (p q : ℕ) (best : Found) → (c.tree.parent p ≡ c.tree.parent q → ⊥) → best ≡ soonest best (least_target (clash_of c p q) space)
+  pub no_pair : (p q : ℕ) (best : Option ℕ) → (c.tree.parent p ≡ c.tree.parent q → ⊥) → best ≡ soonest best (least_target (clash_of c p q) space)
   unfolding clash_of
   no_pair p q best apart = nothing_better best (clash_of c p q) (λ n. no_clash c (target_in space n) p q apart)
 
@@ -76,31 +75,31 @@ module _ (c : Chassis) (space : Space) where
       rw add-one
       (either_first _ _ 0 (space_size space) (λ n. ap (λ (b : Bool). any_below (at_fault fault c (target_in space n)) p || b) (sym (same n))))
 
-  port_clear : (fault : Fault) (p : ℕ) {best : Found} → best ≡ least_target (faulty_to fault c p) space
+  port_clear : (fault : Fault) (p : ℕ) {best : Option ℕ} → best ≡ least_target (faulty_to fault c p) space
       → ((n : ℕ) → at_fault fault c (target_in space n) p ≡ false) → best ≡ least_target (faulty_to fault c (p + 1)) space
   port_clear fault p {best} e none =
       nothing_better best (λ t. at_fault fault c t p) none ∙ rw e (port_more fault p (λ t. at_fault fault c t p) (λ n. refl))
 
   -- what it lets stray, or nothing of a root port
-  pub with_stray : (p : ℕ) {best : Found} → best ≡ least_target (faulty_to Stray c p) space → (c.tree.kind p ≡ root_port → ⊥)
+  pub with_stray : (p : ℕ) {best : Option ℕ} → best ≡ least_target (faulty_to Stray c p) space → (c.tree.kind p ≡ root_port → ⊥)
       → soonest best (least_target (meeting c (held p) (claimed (c.tree.parent p)) false) space) ≡ least_target (faulty_to Stray c (p + 1)) space
   with_stray p e other = rw e (port_more Stray p _ (λ n. stray_meets c (target_in space n) p other))
 
-  pub without_stray : (p : ℕ) {best : Found} → best ≡ least_target (faulty_to Stray c p) space → c.tree.kind p ≡ root_port
+  pub without_stray : (p : ℕ) {best : Option ℕ} → best ≡ least_target (faulty_to Stray c p) space → c.tree.kind p ≡ root_port
       → best ≡ least_target (faulty_to Stray c (p + 1)) space
   without_stray p e is = port_clear Stray p e (λ n. no_stray c (target_in space n) p is)
 
   -- what its parent takes, or nothing of a root port
-  pub with_taken : (p : ℕ) {best : Found} → best ≡ least_target (faulty_to Taken c p) space → (c.tree.kind p ≡ root_port → ⊥)
+  pub with_taken : (p : ℕ) {best : Option ℕ} → best ≡ least_target (faulty_to Taken c p) space → (c.tree.kind p ≡ root_port → ⊥)
       → soonest best (least_target (meeting c (taken_by (c.tree.parent p)) (claimed p) true) space) ≡ least_target (faulty_to Taken c (p + 1)) space
   with_taken p e other = rw e (port_more Taken p _ (λ n. taken_meets c (target_in space n) p other))
 
-  pub without_taken : (p : ℕ) {best : Found} → best ≡ least_target (faulty_to Taken c p) space → c.tree.kind p ≡ root_port
+  pub without_taken : (p : ℕ) {best : Option ℕ} → best ≡ least_target (faulty_to Taken c p) space → c.tree.kind p ≡ root_port
       → best ≡ least_target (faulty_to Taken c (p + 1)) space
   without_taken p e is = port_clear Taken p e (λ n. no_taken c (target_in space n) p is)
 
   -- all ports: nothing at first, all at the end
-  pub faults_begin : (fault : Fault) → Nothing ≡ least_target (faulty_to fault c 0) space
+  pub faults_begin : (fault : Fault) → None ≡ least_target (faulty_to fault c 0) space
   unfolding test_in faulty_to any_below
   faults_begin fault = none_is (record { none = λ i l h. refl })
 

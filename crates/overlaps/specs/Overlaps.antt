@@ -1,11 +1,9 @@
 -- What two ports have to do with a target, as tests of the target that a search for the least one runs over; and the video range, which
 -- is looked at apart.
-use Rattle.std.specs.Prelude.{ℕ, Bool, cond, ◌&&◌, ◌||◌}
+use Rattle.std.specs.Prelude.{ℕ, Bool, cond, ◌&&◌, ◌||◌, Option, Some, None}
 use Rattle.std.specs.Bool.{beq}
 use Rattle.ids.specs.declared.Target.{Target}
 use Rattle.ids.specs.declared.Target.TheVariants.{Addr}
-use Rattle.least.specs.declared.Found.{Found}
-use Rattle.least.specs.declared.Found.TheVariants.{At, Nothing}
 use Rattle.chassis.specs.Chassis.{Chassis, is_own}
 use Rattle.chassis.specs.declared.Fault.{Fault}
 use Rattle.chassis.specs.Check.{clash, takes_at, at_fault}
@@ -34,5 +32,5 @@ unfoldable pub video_at_fault : Fault → Chassis → ℕ → Bool
 video_at_fault fault c p = (c.decoders p (Addr video_first)).vga && at_fault fault c (Addr video_first) p
 
 -- that address, where there is such a port
-unfoldable pub least_of_video : Fault → Chassis → Found
-least_of_video fault c = cond (any_below (video_at_fault fault c) c.tree.count) (At video_first) Nothing
+unfoldable pub least_of_video : Fault → Chassis → Option ℕ
+least_of_video fault c = cond (any_below (video_at_fault fault c) c.tree.count) (Some video_first) None

@@ -12,7 +12,6 @@ use crate::taken::with_taken;
 use crate::video::least_of_video;
 use chassis::Fault;
 use ids::{PortNo, Space};
-use least::Found;
 
 // The best so far, after port p was tried.
 fn with_port<'a>(
@@ -22,8 +21,8 @@ fn with_port<'a>(
     fault: Fault,
     space: Space,
     p: u8,
-    best: Found,
-) -> Found
+    best: Option<u64>,
+) -> Option<u64>
     requires n_value { n ≡ count_of s.now }
     requires p_lt_n { p < n }
     requires best_value { best ≡ least_target (faulty_to fault (chassis_beside s.now patch.now) p) space }
@@ -38,11 +37,11 @@ fn with_port<'a>(
 
 // The least target of a space at which one of n ports is at fault beside the video range.
 #[tactic(auto, using(crate::proofs::Folds::faults_begin, crate::proofs::Folds::faults_end))]
-fn least_beside<'a>(s: &'a [u8], patch: &'a [u8], n: u8, fault: Fault, space: Space) -> Found
+fn least_beside<'a>(s: &'a [u8], patch: &'a [u8], n: u8, fault: Fault, space: Space) -> Option<u64>
     requires { n ≡ count_of s.now }
     ensures { result ≡ least_target (faulty fault (chassis_beside s.now patch.now)) space }
 {
-    let mut best = Found::Nothing;
+    let mut best = None;
     let mut p: u8 = 0;
     while p < n {
         best = with_port(s, patch, n, fault, space, p, best);
@@ -53,7 +52,13 @@ fn least_beside<'a>(s: &'a [u8], patch: &'a [u8], n: u8, fault: Fault, space: Sp
 
 // The least target of a space at which one of n ports is at fault.
 #[tactic(auto, using(crate::proofs::WithVideo::least_address, crate::proofs::WithVideo::least_id, claims::proofs::OfVideo::of_video))]
-pub fn least_fault<'a>(s: &'a [u8], patch: &'a [u8], n: u8, fault: Fault, space: Space) -> Found
+pub fn least_fault<'a>(
+    s: &'a [u8],
+    patch: &'a [u8],
+    n: u8,
+    fault: Fault,
+    space: Space,
+) -> Option<u64>
     requires { n ≡ count_of s.now }
     ensures { result ≡ least_target (faulty fault (chassis_over s.now patch.now)) space }
 {

@@ -7,7 +7,6 @@ ghost use Rattle.overlaps.specs.Overlaps.{meeting};
 
 use holdings::{one_of, reach_at};
 use ids::{PortNo, Space};
-use least::Found;
 use patches::vector;
 use registers::Mechanism;
 
@@ -29,8 +28,8 @@ pub fn least_meeting<'a>(
     a: Holding,
     b: Holding,
     want: bool,
-    best: Found,
-) -> Found
+    best: Option<u64>,
+) -> Option<u64>
     ensures { result ≡ soonest best (least_target (meeting (chassis_beside s.now patch.now) a b want) space) }
 {
     let m = one_of(space);

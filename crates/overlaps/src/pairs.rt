@@ -10,7 +10,6 @@ ghost use Rattle.overlaps.specs.Overlaps.{clash_of, faulty_to};
 
 use crate::meetings::{Holding, least_meeting};
 use ids::{PortNo, Space};
-use least::Found;
 use registers::parent_at;
 
 // The best so far, after ports p and q were tried; a port with itself is its own ID against its claims.
@@ -21,8 +20,8 @@ fn with_pair<'a>(
     space: Space,
     p: PortNo,
     q: PortNo,
-    best: Found,
-) -> Found
+    best: Option<u64>,
+) -> Option<u64>
     ensures { result ≡ soonest best (least_target (clash_of (chassis_beside s.now patch.now) p.0 q.0) space) }
 {
     if parent_at(s, p).0 == parent_at(s, q).0 {
@@ -53,8 +52,8 @@ pub fn with_pairs<'a>(
     n: u8,
     space: Space,
     p: u8,
-    best: Found,
-) -> Found
+    best: Option<u64>,
+) -> Option<u64>
     requires n_value { n ≡ count_of s.now }
     requires p_lt_n { p < n }
     requires best_value { best ≡ least_target (faulty_to Shared (chassis_beside s.now patch.now) p) space }

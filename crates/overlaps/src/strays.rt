@@ -8,12 +8,17 @@ ghost use Rattle.overlaps.specs.Overlaps.{faulty_to};
 use crate::meetings::{Holding, least_meeting};
 use chassis::ROOT_PORT;
 use ids::{PortNo, Space};
-use least::Found;
 use registers::{kind_at, parent_at};
 
 // The best so far, after port p was tried; nothing of a root port strays.
 #[tactic(auto, using(crate::proofs::Folds::with_stray, crate::proofs::Folds::without_stray))]
-pub fn with_child<'a>(s: &'a [u8], patch: &'a [u8], space: Space, p: PortNo, best: Found) -> Found
+pub fn with_child<'a>(
+    s: &'a [u8],
+    patch: &'a [u8],
+    space: Space,
+    p: PortNo,
+    best: Option<u64>,
+) -> Option<u64>
     requires { best ≡ least_target (faulty_to Stray (chassis_beside s.now patch.now) p.0) space }
     ensures { result ≡ least_target (faulty_to Stray (chassis_beside s.now patch.now) (p.0 + 1)) space }
 {

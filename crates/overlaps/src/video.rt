@@ -9,7 +9,6 @@ use chassis::Fault;
 use claims::{VIDEO_FIRST, claims_video};
 use culprits::at_fault;
 use ids::{PortNo, Target};
-use least::Found;
 
 // Whether port p claims the video range and is at fault there; no vector is looked at if it does not claim it.
 #[tactic(auto, unfolding(crate::specs::Overlaps::video_at_fault))]
@@ -25,16 +24,16 @@ fn video_at_fault<'a>(s: &'a [u8], patch: &'a [u8], n: u8, fault: Fault, p: Port
 
 // The first address of the video range, where one of n ports claims it and is at fault there.
 #[tactic(auto, using(least::proofs::Laws::NoneIn, least::proofs::Laws::none_empty, least::proofs::Laws::none_more, crate::proofs::WithVideo::video_at, crate::proofs::WithVideo::video_none))]
-pub fn least_of_video<'a>(s: &'a [u8], patch: &'a [u8], n: u8, fault: Fault) -> Found
+pub fn least_of_video<'a>(s: &'a [u8], patch: &'a [u8], n: u8, fault: Fault) -> Option<u64>
     requires { n ≡ count_of s.now }
     ensures { result ≡ least_of_video fault (chassis_over s.now patch.now) }
 {
     let mut p: u8 = 0;
     while p < n {
         if video_at_fault(s, patch, n, fault, PortNo(p)) {
-            return Found::At(VIDEO_FIRST);
+            return Some(VIDEO_FIRST);
         }
         p += 1;
     }
-    Found::Nothing
+    None
 }

@@ -18,8 +18,6 @@ use Rattle.chassis.specs.Tree.{any_below}
 use Rattle.registers.specs.Record.{port_at}
 use Rattle.trees.specs.Trees.{count_of}
 use Rattle.picture.specs.declared.Header.{Header}
-use Rattle.picture.specs.declared.Reading.{Reading}
-use Rattle.picture.specs.declared.Reading.TheVariants.{Read, Refused}
 use Rattle.picture.specs.Header.{header_of}
 use Rattle.picture.specs.Layout.{all_bytes}
 use Rattle.picture.specs.Reading.{reading}
@@ -27,6 +25,8 @@ use Rattle.picture.proofs.Laws.{count_of_lem, count_small}
 use Rattle.picture.proofs.WhatReads.{Reads, reads, past_if}
 use Rattle.patches.specs.Patch.{ports_in, port_in, offset_at, running_in, header_misfits, not_rising, port_misplaced, ports_misplaced, offset_misplaced, vectors_misplaced}
 use Rattle.patches.specs.Reading.{patch_reading, reading_with}
+use Rattle.std.specs.Prelude.{Result, Ok, Err}
+use Rattle.picture.specs.declared.Refusal.{Refusal}
 
 pub record Accepted (s patch : List ℕ) (h : Header) : Type 0 where
   pub picture_reads : Reads s h
@@ -37,11 +37,11 @@ pub record Accepted (s patch : List ℕ) (h : Header) : Type 0 where
   pub ends : running_in s patch (ports_in patch) ≡ length patch
 
 -- what is refused neither by the picture nor by the patch
-past_patch : (got : Reading) (s patch : List ℕ) {h : Header} → patch_reading got s patch ≡ Read h
-    → (got ≡ Read h) × (ports_misplaced h.count patch ≡ false) × (vectors_misplaced s patch ≡ false)
+past_patch : (got : Result Header Refusal) (s patch : List ℕ) {h : Header} → patch_reading got s patch ≡ Ok h
+    → (got ≡ Ok h) × (ports_misplaced h.count patch ≡ false) × (vectors_misplaced s patch ≡ false)
 unfolding patch_reading
-past_patch (Refused r) s patch e = impossible (cc)
-past_patch (Read g) s patch {h} e =
+past_patch (Err r) s patch e = impossible (cc)
+past_patch (Ok g) s patch {h} e =
     let thirty = past_if (header_misfits patch) 30 255 _ e in
     let one = past_if (ports_misplaced g.count patch) 31 255 _ thirty.1 in
     let two = past_if (vectors_misplaced s patch) 32 255 _ one.1 in
@@ -74,7 +74,7 @@ module _ (s patch : List ℕ) (right : vectors_misplaced s patch ≡ false) wher
   end_there = eqb-true _ _ (not-false _ parts.1)
 
 -- a patch that is read over a picture is accepted
-pub accepted : (s patch : List ℕ) (h : Header) → reading_with s patch ≡ Read h → Accepted s patch h
+pub accepted : (s patch : List ℕ) (h : Header) → reading_with s patch ≡ Ok h → Accepted s patch h
 unfolding not_rising header_of
 accepted s patch h e =
     let past = past_patch (reading s) s patch e in

@@ -10,8 +10,6 @@ use native.Mathlib.Nat.{le_refl, le_trans}
 use native.Mathlib.Omega.{arith}
 use borrow.Author.Tests.{eqb-true, eqb-false}
 use lib.ListN.{length, get_or, take, drop}
-use Rattle.least.specs.declared.Found.{Found}
-use Rattle.least.specs.declared.Found.TheVariants.{At, Nothing}
 use Rattle.least.proofs.Laws.{Least, is_least}
 use Rattle.chassis.proofs.AlikeTrees.{AlikeTrees, sane_alike}
 use Rattle.chassis.proofs.Tree.{Sane}
@@ -22,7 +20,6 @@ use Rattle.registers.proofs.Laws.{record_mono, record_behind}
 use Rattle.registers.specs.Vectors.{vector_bytes}
 use Rattle.trees.specs.Trees.{count_of, tree_of}
 use Rattle.picture.specs.declared.Header.{Header}
-use Rattle.picture.specs.declared.Reading.TheVariants.{Read}
 use Rattle.picture.specs.declared.Rule.{Rule}
 use Rattle.picture.specs.declared.Rule.TheVariants.{Tree, Chain, Settings, Start}
 use Rattle.picture.specs.Header.{header_of, length_wrong}
@@ -39,6 +36,7 @@ use Rattle.patches.proofs.Bytes.{part_same, SameTo, u16_same, u32_same, port_sam
 use Rattle.patches.proofs.Accepted.{Accepted, accepted, row_fits}
 use Rattle.patches.proofs.Sought.{sought}
 use Rattle.patches.proofs.Patched.{at_of, at_is, length_to, kept_to, apart, new_to}
+use Rattle.std.specs.Prelude.{Option, Some, None, Ok}
 
 module _ (s patch : List ℕ) (h : Header) (a : Accepted s patch h) where
   abbrev s' : List ℕ
@@ -126,7 +124,7 @@ module _ (s patch : List ℕ) (h : Header) (a : Accepted s patch h) where
       }
 
   -- it reads, with the same header
-  pub patched_reads : reading s' ≡ Read h
+  pub patched_reads : reading s' ≡ Ok h
   patched_reads = passes s' h reads'
 
   module _ (p : ℕ) (below : p < count_of s) (m : Mechanism) where
@@ -156,13 +154,13 @@ module _ (s patch : List ℕ) (h : Header) (a : Accepted s patch h) where
         let there : get_or s' (at_of s patch h a i + x) 0 ≡ get_or patch (offset_at patch i + x) 0 = new_to s patch h a (ports_in patch) (le_refl _) i x row (subst (λ (q : ℕ). x < all_bytes (port_at s q).fpb) (sym here) inside) in
         rw (from, to) (subst (λ (q : ℕ). get_or s' ((port_at s q).vectors_at + x) 0 ≡ get_or patch (offset_at patch i + x) 0) here there)
 
-    by_row : (row : Found) → Least (is_row_of patch p) 0 (ports_in patch) row → take bytes (drop at s') ≡ part_at (place_by row s patch p m) s patch
+    by_row : (row : Option ℕ) → Least (is_row_of patch p) 0 (ports_in patch) row → take bytes (drop at s') ≡ part_at (place_by row s patch p m) s patch
     unfolding part_at is_row_of
-    by_row (At i) found =
+    by_row (Some i) found =
         let here : port_in patch i ≡ p = eqb-true _ _ found.holds in
         part_same bytes at (offset_at patch i + offset_in (port_at s p).fpb m) s' patch in-patched
         (omega (arith, rw here at (row_fits s patch h a i found.below), fits_in s h read p below m)) (new i here found.below)
-    by_row Nothing none =
+    by_row None none =
         part_same bytes at at s' s in-patched in-picture
         (λ j l. kept_to s patch h a (ports_in patch) (le_refl _) (at + j)
         (λ k n. apart s patch h a p k (at + j) below n (eqb-false _ _ (none.none k zero-le n))
@@ -175,7 +173,7 @@ module _ (s patch : List ℕ) (h : Header) (a : Accepted s patch h) where
         rw (port_patched p below, sought s patch h a p) (by_row (row_of patch p) (is_least (is_row_of patch p) 0 (ports_in patch) refl))
 
 -- where picture and patch read, a port's vector lies where its row says
-module _ (s patch : List ℕ) (h : Header) (read : reading_with s patch ≡ Read h) (p : ℕ) (m : Mechanism) where
+module _ (s patch : List ℕ) (h : Header) (read : reading_with s patch ≡ Ok h) (p : ℕ) (m : Mechanism) where
   pub place_told : place_over s patch p m ≡ place_of s patch p m
   unfolding place_over place_of
   place_told = rw (sought s patch h (accepted s patch h read) p)
@@ -185,5 +183,5 @@ module _ (s patch : List ℕ) (h : Header) (read : reading_with s patch ≡ Read
   vector_told = rw place_told
 
 pub place_both : (s patch : List ℕ) (p : ℕ) (m : Mechanism) (r : Place) → r ≡ place_over s patch p m
-    → (r ≡ place_over s patch p m) × ((h : Header) → reading_with s patch ≡ Read h → r ≡ place_of s patch p m)
+    → (r ≡ place_over s patch p m) × ((h : Header) → reading_with s patch ≡ Ok h → r ≡ place_of s patch p m)
 place_both s patch p m r here = (here, λ h read. here ∙ place_told s patch h read p m)

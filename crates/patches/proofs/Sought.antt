@@ -9,7 +9,6 @@ use native.Mathlib.Omega.{arith}
 use borrow.Author.Tests.{eqb-false, ne_eqb, ltb-true, ltb-false}
 use lib.Dec.{eqb, ltb}
 use lib.ListN.{length}
-use Rattle.least.specs.declared.Found.TheVariants.{At, Nothing}
 use Rattle.least.proofs.Laws.{impossible, at_is, none_is}
 use Rattle.lent.specs.Lent.{u16_at, u32_at}
 use Rattle.registers.specs.declared.Mechanism.{Mechanism}
@@ -20,6 +19,7 @@ use Rattle.patches.specs.Patch.{ports_in, port_in}
 use Rattle.patches.specs.Parts.{is_row_of, row_of, part_at}
 use Rattle.patches.specs.Halves.{middle, halved, halved_to, row_if, row_sought, place_over, vector_over}
 use Rattle.patches.proofs.Accepted.{Accepted, rises, rows_few}
+use Rattle.std.specs.Prelude.{Some, None}
 
 module _ (s patch : List ℕ) (h : Header) (a : Accepted s patch h) (p : ℕ) where
   -- the rows before `lo` have lower ports, those from `hi` on none that is lower, and fewer than `wide` are between
@@ -104,7 +104,7 @@ module _ (s patch : List ℕ) (h : Header) (a : Accepted s patch h) (p : ℕ) wh
       before k l = ne_eqb (port_in patch k) p (λ e. omega (arith, lower k l))
 
       go : (more same : Bool) → ltb i (ports_in patch) ≡ more → eqb (port_in patch i) p ≡ same
-          → cond (more && same) (At i) Nothing ≡ row_of patch p
+          → cond (more && same) (Some i) None ≡ row_of patch p
       go true true l e = at_is (record { from = zero-le; below = ltb-true _ _ l; holds = e; first = record { none = λ k z m. before k m } })
       go true false l e = none_is (record { none = λ k z m. other k m (dec_lt k i) (dec_lt i k) })
         where
@@ -122,7 +122,7 @@ module _ (s patch : List ℕ) (h : Header) (a : Accepted s patch h) (p : ℕ) wh
       ends_at (after 7).lo all_halved.lower (λ k l m. all_halved.higher k (omega (arith, all_halved.ordered, all_halved.narrow)) m)
 
 -- without a patch there is no row
-no_row : (p : ℕ) → Nothing ≡ row_sought [] p
+no_row : (p : ℕ) → None ≡ row_sought [] p
 unfolding row_sought halved_to halved u32_at u16_at
 no_row p = refl
 

@@ -1,7 +1,5 @@
 -- 02, Item 2: "For each vector the part handed out lies in the picture or in the patch, and the call says which."
-use Rattle.std.specs.Prelude.{ℕ, ◌+◌, Bool, List, eqb, take, drop}
-use Rattle.least.specs.declared.Found.{Found}
-use Rattle.least.specs.declared.Found.TheVariants.{At, Nothing}
+use Rattle.std.specs.Prelude.{ℕ, ◌+◌, Bool, List, eqb, take, drop, Option, Some, None}
 use Rattle.least.specs.Least.{first_in}
 use Rattle.registers.specs.declared.Mechanism.{Mechanism}
 use Rattle.registers.specs.Record.{port_at}
@@ -16,20 +14,20 @@ use Rattle.patches.specs.Patch.{ports_in, port_in, offset_at}
 unfoldable pub is_row_of : List ℕ → ℕ → ℕ → Bool
 is_row_of patch p i = eqb (port_in patch i) p
 
-abbrev pub row_of : List ℕ → ℕ → Found
+abbrev pub row_of : List ℕ → ℕ → Option ℕ
 row_of patch p = first_in (is_row_of patch p) 0 (ports_in patch)
 
 -- which slice a port's vectors lie in, and where they start there, by the row found for the port
-abbrev pub source_by : Found → Source
-source_by (At i) = Patch
-source_by Nothing = Picture
+abbrev pub source_by : Option ℕ → Source
+source_by (Some i) = Patch
+source_by None = Picture
 
-abbrev pub start_by : Found → List ℕ → List ℕ → ℕ → ℕ
-start_by (At i) s patch p = offset_at patch i
-start_by Nothing s patch p = (port_at s p).vectors_at
+abbrev pub start_by : Option ℕ → List ℕ → List ℕ → ℕ → ℕ
+start_by (Some i) s patch p = offset_at patch i
+start_by None s patch p = (port_at s p).vectors_at
 
 -- which slice one of them lies in, where it starts there and how many bytes it has
-abbrev pub place_by : Found → List ℕ → List ℕ → ℕ → Mechanism → Place
+abbrev pub place_by : Option ℕ → List ℕ → List ℕ → ℕ → Mechanism → Place
 place_by row s patch p m =
     record {
       source = source_by row;

@@ -1,14 +1,12 @@
 // The part handed out: a port's vector lies in the patch where the port stands in it, and in the picture where it does not.
 ghost use Rattle.std.specs.Prelude.{[], ◌≡◌};
 ghost use Rattle.picture.specs.declared.Header.{Header};
-ghost use Rattle.picture.specs.declared.Reading.TheVariants.{Read};
 ghost use Rattle.patches.specs.Halves.{place_over, vector_over};
 ghost use Rattle.patches.specs.Parts.{place_of, part_at};
 ghost use Rattle.patches.specs.Reading.{reading_with};
 
 use crate::rows::{offset_at, row_of};
 use ids::PortNo;
-use least::Found;
 use picture::offset_in;
 use registers::{Mechanism, sizes_of, vector_bytes, vectors_start};
 
@@ -31,16 +29,16 @@ pub struct Place {
 #[tactic(auto, using(picture::proofs::Laws::offset_same, crate::proofs::PatchedReads::place_both), unfolding(crate::specs::Halves::place_over))]
 pub fn lies_at(s: &[u8], patch: &[u8], p: PortNo, m: Mechanism) -> Place
     ensures value { result ≡ place_over s.now patch.now p.0 m }
-    ensures where_it_reads { (h : Header) → reading_with s.now patch.now ≡ Read h → result ≡ place_of s.now patch.now p.0 m }
+    ensures where_it_reads { (h : Header) → reading_with s.now patch.now ≡ Ok h → result ≡ place_of s.now patch.now p.0 m }
 {
     let f = sizes_of(s, p);
     match row_of(patch, p) {
-        Found::At(i) => Place {
+        Some(i) => Place {
             source: Source::Patch,
             at: offset_at(patch, i as u32) as u64 + offset_in(f, m),
             bytes: vector_bytes(f, m),
         },
-        Found::Nothing => Place {
+        None => Place {
             source: Source::Picture,
             at: vectors_start(s, p) as u64 + offset_in(f, m),
             bytes: vector_bytes(f, m),
@@ -66,7 +64,7 @@ fn sought<'a>(s: &'a [u8], patch: &'a [u8], p: PortNo, m: Mechanism) -> &'a [u8]
 #[tactic(auto, using(crate::proofs::Sought::own_vector, crate::proofs::PatchedReads::vector_told))]
 pub fn vector<'a>(s: &'a [u8], patch: &'a [u8], p: PortNo, m: Mechanism) -> &'a [u8]
     ensures result_value { result.now ≡ vector_over s.now patch.now p.0 m }
-    ensures where_it_reads { (h : Header) → reading_with s.now patch.now ≡ Read h → result.now ≡ part_at (place_of s.now patch.now p.0 m) s.now patch.now }
+    ensures where_it_reads { (h : Header) → reading_with s.now patch.now ≡ Ok h → result.now ≡ part_at (place_of s.now patch.now p.0 m) s.now patch.now }
 {
     if patch.len() == 0 {
         return picture::vector(s, p, m);

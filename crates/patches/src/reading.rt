@@ -1,6 +1,5 @@
 // Reading a patch, after the picture that it is laid over: numbers 30 to 32, each looked for over the whole patch before the next.
 ghost use Rattle.std.specs.Prelude.{false, ◌≡◌, ◌≤◌};
-ghost use Rattle.picture.specs.declared.Reading.TheVariants.{Read};
 ghost use Rattle.picture.specs.Reading.{refused};
 ghost use Rattle.patches.specs.Patch.{header_misfits, port_misplaced, ports_misplaced, vectors_misplaced};
 ghost use Rattle.patches.specs.Reading.{patch_reading, reading_with};
@@ -8,7 +7,7 @@ ghost use Rattle.patches.specs.Reading.{patch_reading, reading_with};
 use crate::rows::{offset_at, port_in, ports_in, row_at};
 use ids::PortNo;
 use lent::u32_at;
-use picture::{Header, Reading, Refusal, all_bytes};
+use picture::{Header, Refusal, all_bytes};
 use registers::port_at;
 
 // Number 30.
@@ -69,10 +68,10 @@ fn vectors_misplaced(s: &[u8], patch: &[u8], n: u8) -> bool
 }
 
 // The answer for a patch that does not read; no port is named.
-fn refuse(number: u8) -> Reading
+fn refuse(number: u8) -> Result<Header, Refusal>
     ensures { result ≡ refused number 255 }
 {
-    Reading::Refused(Refusal {
+    Err(Refusal {
         number,
         port: PortNo::NONE,
     })
@@ -80,9 +79,9 @@ fn refuse(number: u8) -> Reading
 
 // Numbers 30 to 32 of a patch over a picture that reads, or the picture's header.
 #[tactic(auto, unfolding(crate::specs::Reading::patch_reading))]
-fn read_patch(s: &[u8], patch: &[u8], h: Header) -> Reading
+fn read_patch(s: &[u8], patch: &[u8], h: Header) -> Result<Header, Refusal>
     requires { h.count ≤ 64 }
-    ensures { result ≡ patch_reading (Read h) s.now patch.now }
+    ensures { result ≡ patch_reading (Ok h) s.now patch.now }
 {
     if header_misfits(patch) {
         return refuse(30);
@@ -94,16 +93,16 @@ fn read_patch(s: &[u8], patch: &[u8], h: Header) -> Reading
     if vectors_misplaced(s, patch, n) {
         return refuse(32);
     }
-    Reading::Read(h)
+    Ok(h)
 }
 
 // Reads a picture and a patch: numbers 1 to 10, then 30 to 32, or the picture's header.
 #[tactic(auto, using(picture::proofs::WhatReads::count_few), unfolding(crate::specs::Reading::patch_reading))]
-pub fn read(s: &[u8], patch: &[u8]) -> Reading
+pub fn read(s: &[u8], patch: &[u8]) -> Result<Header, Refusal>
     ensures { result ≡ reading_with s.now patch.now }
 {
     let got = picture::read(s);
-    let Reading::Read(h) = got else {
+    let Ok(h) = got else {
         return got;
     };
     read_patch(s, patch, h)

@@ -4,7 +4,6 @@ ghost use Rattle.patches.specs.Patch.{ports_in, row_at, port_in, offset_at};
 ghost use Rattle.patches.specs.Halves.{halved, halved_to, is_row, row_sought};
 
 use ids::PortNo;
-use least::Found;
 use lent::u32_at;
 
 // How many bytes come before the rows, and how many each row has.
@@ -94,15 +93,15 @@ fn halve_all(patch: &[u8], p: PortNo) -> Rows
 
 // The row of port p, if it stands in the patch; of a patch that is refused, perhaps none where there is one.
 #[tactic(auto, unfolding(crate::specs::Parts::is_row_of, crate::specs::Halves::row_sought))]
-pub fn row_of(patch: &[u8], p: PortNo) -> Found
+pub fn row_of(patch: &[u8], p: PortNo) -> Option<u64>
     ensures value { result ≡ row_sought patch.now p.0 }
     ensures result_value { is_row result ≡ true }
 {
     let row = halve_all(patch, p).lo;
     if row < ports_in(patch) {
         if port_in(patch, row) == p.0 as u32 {
-            return Found::At(row as u64);
+            return Some(row as u64);
         }
     }
-    Found::Nothing
+    None
 }

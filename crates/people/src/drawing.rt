@@ -6,7 +6,6 @@ use crate::lines::say_line;
 use crate::neighbours::{above, child_from, following, has_later_sibling};
 use crate::words::say;
 use ids::PortNo;
-use picture::Reading;
 use std::io;
 
 // The three columns of a port above: a bar where a sibling of it follows further down.
@@ -69,7 +68,7 @@ fn draw(rt: &impl Print, s: &[u8], n: u8) -> io::Result<()>
 #[tactic(auto, using(picture::proofs::WhatReads::count_few, picture::proofs::WhatReads::count_read))]
 pub fn print_tree(rt: &impl Print, s: &[u8]) -> io::Result<()> {
     let got = picture::read(s);
-    let Reading::Read(h) = got else {
+    let Ok(h) = got else {
         return reports::report_lines(s).print(rt);
     };
     draw(rt, s, h.count as u8)

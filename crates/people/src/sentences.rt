@@ -5,7 +5,7 @@ use crate::holding::{say_decoders, say_holder};
 use crate::patching::say_of_patch;
 use crate::ports::{say_number_of, say_port, say_tree_breaker};
 use crate::words::{say, say_bytes, say_number, say_target};
-use chassis::{Conversion, Finding, Hold, Named, Shown};
+use chassis::{Conversion, Finding, Hold, Named};
 use ids::{PortNo, Target};
 use lent::{u16_at, u32_at};
 use registers::{edition_of, own_id_at, parent_at, port_at};
@@ -173,10 +173,10 @@ fn say_particulars<'a>(
     s: &'a [u8],
     patch: &'a [u8],
     number: u8,
-    shown: Shown,
+    shown: Option<Target>,
     ports: Named,
 ) -> io::Result<()> {
-    if let Shown::Least(t) = shown {
+    if let Some(t) = shown {
         say(rt, b": ")?;
         return say_of_target(rt, s, patch, number, t, ports);
     }

@@ -10,8 +10,6 @@ use borrow.Author.Tests.{eq-eqb, ne_eqb, lt-ltb, ltb-false}
 use lib.ListN.{length}
 use lib.Dec.{eqb, ltb}
 use Rattle.least.proofs.Laws.{impossible, NoneIn, at_is, none_is, is_at}
-use Rattle.least.specs.declared.Found.{Found}
-use Rattle.least.specs.declared.Found.TheVariants.{At, Nothing}
 use Rattle.least.specs.Least.{first_in, or_else}
 use Rattle.registers.specs.declared.Fpb.{Fpb}
 use Rattle.registers.specs.declared.Mechanism.{Mechanism}
@@ -22,13 +20,12 @@ use Rattle.trees.specs.Trees.{count_of}
 use Rattle.picture.specs.declared.Header.{Header}
 use Rattle.picture.specs.Header.{header_of, count_wrong}
 use Rattle.picture.specs.Layout.{all_bytes, running_offset, place_wrong, end_wrong, offset_in}
-use Rattle.picture.specs.declared.Reading.{Reading}
-use Rattle.picture.specs.declared.Reading.TheVariants.{Read, Refused}
 use Rattle.picture.specs.declared.Refusal.{Refusal}
 use Rattle.picture.specs.declared.Rule.{Rule}
 use Rattle.picture.specs.declared.Rule.TheVariants.{Tree, Chain, Settings, Start}
 use Rattle.picture.specs.Onward.{is_port, then_at}
 use Rattle.picture.specs.Reading.{breaks, misplaced_in, refused_at, ports_reading}
+use Rattle.std.specs.Prelude.{Option, Some, None, Result, Ok, Err}
 
 -- whether a port's vectors start at the running offset
 module _ (s : List ℕ) (p offset start : ℕ) (is : start ≡ (port_at s p).vectors_at) (at : offset ≡ running_offset s p) where
@@ -45,24 +42,24 @@ pub all_bytes_same : (f g : Fpb) → ((m : Mechanism) → vector_bytes f m ≡ v
 all_bytes_same f g same = rw (same Rid, same Low, same High)
 
 -- number 10 at a port, at the end and nowhere
-pub misplaced_here : (s : List ℕ) (p : ℕ) → p < count_of s → place_wrong s p ≡ true → NoneIn (place_wrong s) 0 p → At p ≡ misplaced_in s
+pub misplaced_here : (s : List ℕ) (p : ℕ) → p < count_of s → place_wrong s p ≡ true → NoneIn (place_wrong s) 0 p → Some p ≡ misplaced_in s
 unfolding misplaced_in
 misplaced_here s p below wrong none =
-    ap (λ (f : Found). or_else f (cond (end_wrong s) (At 255) Nothing))
+    ap (λ (f : Option ℕ). or_else f (cond (end_wrong s) (Some 255) None))
     (at_is (record { from = zero-le; below = below; holds = wrong; first = none }))
 
 module _ (s : List ℕ) (p offset : ℕ) (end : p ≡ count_of s) (at : offset ≡ running_offset s p) (none : NoneIn (place_wrong s) 0 p) where
-  rest : (found : Found) → cond (end_wrong s) (At 255) Nothing ≡ found → found ≡ misplaced_in s
+  rest : (found : Option ℕ) → cond (end_wrong s) (Some 255) None ≡ found → found ≡ misplaced_in s
   unfolding misplaced_in
   rest found e = rw (← none_is (rw end at none), e)
 
-  pub misplaced_end : (offset ≡ length s → ⊥) → At 255 ≡ misplaced_in s
+  pub misplaced_end : (offset ≡ length s → ⊥) → Some 255 ≡ misplaced_in s
   unfolding end_wrong
-  misplaced_end differs = rest (At 255) (rw (← end, ← at, ne_eqb _ _ differs))
+  misplaced_end differs = rest (Some 255) (rw (← end, ← at, ne_eqb _ _ differs))
 
-  pub misplaced_nowhere : offset ≡ length s → Nothing ≡ misplaced_in s
+  pub misplaced_nowhere : offset ≡ length s → None ≡ misplaced_in s
   unfolding end_wrong
-  misplaced_nowhere same = rest Nothing (rw (← end, ← at, eq-eqb _ _ same))
+  misplaced_nowhere same = rest None (rw (← end, ← at, eq-eqb _ _ same))
 
 -- a vector's place among those of its port hangs on their sizes
 pub offset_same : (f g : Fpb) → ((m : Mechanism) → vector_bytes f m ≡ vector_bytes g m) → (m : Mechanism) → offset_in f m ≡ offset_in g m
@@ -86,18 +83,18 @@ count_small h right = go (eqb h.count 0) (ltb 64 h.count) refl right
     go false false e r = ltb-false 64 h.count e
 
 -- numbers looked for one after the other are a chain of refusals
-pub chained : (h : Header) (a b c d e : Found)
-    → then_at (then_at (then_at (then_at (then_at (Read h) a 6) b 7) c 8) d 9) e 10
-    ≡ refused_at a 6 (refused_at b 7 (refused_at c 8 (refused_at d 9 (refused_at e 10 (Read h)))))
-chained h (At p) b c d e = refl
-chained h Nothing (At p) c d e = refl
-chained h Nothing Nothing (At p) d e = refl
-chained h Nothing Nothing Nothing (At p) e = refl
-chained h Nothing Nothing Nothing Nothing (At p) = refl
-chained h Nothing Nothing Nothing Nothing Nothing = refl
+pub chained : (h : Header) (a b c d e : Option ℕ)
+    → then_at (then_at (then_at (then_at (then_at (Ok h) a 6) b 7) c 8) d 9) e 10
+    ≡ refused_at a 6 (refused_at b 7 (refused_at c 8 (refused_at d 9 (refused_at e 10 (Ok h)))))
+chained h (Some p) b c d e = refl
+chained h None (Some p) c d e = refl
+chained h None None (Some p) d e = refl
+chained h None None None (Some p) e = refl
+chained h None None None None (Some p) = refl
+chained h None None None None None = refl
 
-pub ports_chained : (s : List ℕ) (n : ℕ) (h : Header) (tree chain settings start : Reading) → h ≡ header_of s → n ≡ count_of s
-    → tree ≡ then_at (Read h) (first_in (breaks Tree s) 0 n) 6
+pub ports_chained : (s : List ℕ) (n : ℕ) (h : Header) (tree chain settings start : Result Header Refusal) → h ≡ header_of s → n ≡ count_of s
+    → tree ≡ then_at (Ok h) (first_in (breaks Tree s) 0 n) 6
     → chain ≡ then_at tree (first_in (breaks Chain s) 0 n) 7
     → settings ≡ then_at chain (first_in (breaks Settings s) 0 n) 8
     → start ≡ then_at settings (first_in (breaks Start s) 0 n) 9
@@ -106,25 +103,25 @@ unfolding ports_reading
 ports_chained s n h tree chain settings start header count six seven eight nine =
     rw (nine, eight, seven, six, header, count) (chained (header_of s) (broken Tree) (broken Chain) (broken Settings) (broken Start) (misplaced_in s))
   where
-    broken : Rule → Found
+    broken : Rule → Option ℕ
     broken rule = first_in (breaks rule s) 0 (count_of s)
 
 -- a refusal stays, whatever the next number finds
-pub refused_stays : (got : Reading) (r : Refusal) (found : Found) (number : ℕ) → got ≡ Refused r → got ≡ then_at got found number
+pub refused_stays : (got : Result Header Refusal) (r : Refusal) (found : Option ℕ) (number : ℕ) → got ≡ Err r → got ≡ then_at got found number
 refused_stays got r found number e = rw e
 
 -- a port found is below the count, and the end's number is 255
-pub port_found : (test : ℕ → Bool) (n : ℕ) (found : Found) → n < 256 → found ≡ first_in test 0 n → is_port found ≡ true
-port_found test n (At p) small e =
+pub port_found : (test : ℕ → Bool) (n : ℕ) (found : Option ℕ) → n < 256 → found ≡ first_in test 0 n → is_port found ≡ true
+port_found test n (Some p) small e =
     let found = is_at test 0 n e in
     lt-ltb p 256 (omega (arith, found.below))
-port_found test n Nothing small e = refl
+port_found test n None small e = refl
 
-pub place_found : (s : List ℕ) (found : Found) → count_of s < 256 → found ≡ misplaced_in s → is_port found ≡ true
+pub place_found : (s : List ℕ) (found : Option ℕ) → count_of s < 256 → found ≡ misplaced_in s → is_port found ≡ true
 unfolding misplaced_in
 place_found s found small e = go (first_in (place_wrong s) 0 (count_of s)) (end_wrong s) refl e
   where
-    go : (f : Found) (wrong : Bool) → f ≡ first_in (place_wrong s) 0 (count_of s) → found ≡ or_else f (cond wrong (At 255) Nothing) → is_port found ≡ true
-    go (At p) wrong is e = rw e (port_found (place_wrong s) (count_of s) (At p) small is)
-    go Nothing true is e = rw e
-    go Nothing false is e = rw e
+    go : (f : Option ℕ) (wrong : Bool) → f ≡ first_in (place_wrong s) 0 (count_of s) → found ≡ or_else f (cond wrong (Some 255) None) → is_port found ≡ true
+    go (Some p) wrong is e = rw e (port_found (place_wrong s) (count_of s) (Some p) small is)
+    go None true is e = rw e
+    go None false is e = rw e

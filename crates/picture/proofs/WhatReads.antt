@@ -11,8 +11,6 @@ use borrow.Author.Tests.{eqb-true, not-false}
 use lib.ListN.{length, length-drop}
 use lib.Seq.{length-take-le}
 use Rattle.least.proofs.Laws.{impossible, NoneIn, none_is, is_none}
-use Rattle.least.specs.declared.Found.{Found}
-use Rattle.least.specs.declared.Found.TheVariants.{At, Nothing}
 use Rattle.least.specs.Least.{first_in, or_else}
 use Rattle.chassis.proofs.Tree.{Sane}
 use Rattle.registers.specs.declared.Mechanism.{Mechanism}
@@ -22,13 +20,13 @@ use Rattle.registers.specs.Vectors.{vector_bytes}
 use Rattle.trees.specs.Trees.{count_of, tree_of}
 use Rattle.picture.proofs.Laws.{count_of_lem, count_small}
 use Rattle.picture.specs.declared.Header.{Header}
-use Rattle.picture.specs.declared.Reading.{Reading}
-use Rattle.picture.specs.declared.Reading.TheVariants.{Read}
 use Rattle.picture.specs.declared.Rule.{Rule}
 use Rattle.picture.specs.declared.Rule.TheVariants.{Tree, Chain, Settings, Start}
 use Rattle.picture.specs.Header.{header_of, length_wrong, edition_wrong, count_wrong, total_wrong, offset_wrong}
 use Rattle.picture.specs.Layout.{running_offset, place_wrong, end_wrong, offset_in, vector_of}
 use Rattle.picture.specs.Reading.{breaks, misplaced_in, refused_if, refused_at, ports_reading, reading}
+use Rattle.std.specs.Prelude.{Option, Some, None, Result, Ok}
+use Rattle.picture.specs.declared.Refusal.{Refusal}
 
 pub record Reads (s : List ℕ) (h : Header) : Type 0 where
   pub header : h ≡ header_of s
@@ -42,21 +40,21 @@ pub record Reads (s : List ℕ) (h : Header) : Type 0 where
   pub end_right : end_wrong s ≡ false
 
 -- one refusal passed on the way to a header
-pub past_if : (wrong : Bool) (number port : ℕ) (rest : Reading) {h : Header} → refused_if wrong number port rest ≡ Read h → (wrong ≡ false) × (rest ≡ Read h)
+pub past_if : (wrong : Bool) (number port : ℕ) (rest : Result Header Refusal) {h : Header} → refused_if wrong number port rest ≡ Ok h → (wrong ≡ false) × (rest ≡ Ok h)
 past_if true number port rest e = impossible (cc)
 past_if false number port rest e = (refl, e)
 
-past_at : (found : Found) (number : ℕ) (rest : Reading) {h : Header} → refused_at found number rest ≡ Read h → (Nothing ≡ found) × (rest ≡ Read h)
-past_at (At p) number rest e = impossible (cc)
-past_at Nothing number rest e = (refl, e)
+past_at : (found : Option ℕ) (number : ℕ) (rest : Result Header Refusal) {h : Header} → refused_at found number rest ≡ Ok h → (None ≡ found) × (rest ≡ Ok h)
+past_at (Some p) number rest e = impossible (cc)
+past_at None number rest e = (refl, e)
 
-past_end : (found : Found) (wrong : Bool) → Nothing ≡ or_else found (cond wrong (At 255) Nothing) → (Nothing ≡ found) × (wrong ≡ false)
-past_end (At p) wrong e = impossible (cc)
-past_end Nothing true e = impossible (cc)
-past_end Nothing false e = (refl, refl)
+past_end : (found : Option ℕ) (wrong : Bool) → None ≡ or_else found (cond wrong (Some 255) None) → (None ≡ found) × (wrong ≡ false)
+past_end (Some p) wrong e = impossible (cc)
+past_end None true e = impossible (cc)
+past_end None false e = (refl, refl)
 
 -- a picture whose reading is a header passed every test
-pub reads : (s : List ℕ) (h : Header) → reading s ≡ Read h → Reads s h
+pub reads : (s : List ℕ) (h : Header) → reading s ≡ Ok h → Reads s h
 unfolding reading ports_reading misplaced_in
 reads s h e =
     let one = past_if (length_wrong s) 1 255 _ e in
@@ -68,7 +66,7 @@ reads s h e =
     let seven = past_at (first_in (breaks Chain s) 0 (count_of s)) 7 _ six.1 in
     let eight = past_at (first_in (breaks Settings s) 0 (count_of s)) 8 _ seven.1 in
     let nine = past_at (first_in (breaks Start s) 0 (count_of s)) 9 _ eight.1 in
-    let ten = past_at (misplaced_in s) 10 (Read (header_of s)) nine.1 in
+    let ten = past_at (misplaced_in s) 10 (Ok (header_of s)) nine.1 in
     let end = past_end (first_in (place_wrong s) 0 (count_of s)) (end_wrong s) ten.0 in
     record {
       header = let r = ten.1 in cc;
@@ -83,7 +81,7 @@ reads s h e =
     }
   where
     Kept : Rule → Type 0
-    Kept rule = Nothing ≡ first_in (breaks rule s) 0 (count_of s)
+    Kept rule = None ≡ first_in (breaks rule s) 0 (count_of s)
 
     kept : (rule : Rule) → Kept Tree → Kept Chain → Kept Settings → Kept Start → NoneIn (breaks rule s) 0 (count_of s)
     kept Tree tree chain settings start = is_none _ _ _ tree
@@ -92,13 +90,13 @@ reads s h e =
     kept Start tree chain settings start = is_none _ _ _ start
 
 -- and one that passes every test reads
-pub passes : (s : List ℕ) (h : Header) → Reads s h → reading s ≡ Read h
+pub passes : (s : List ℕ) (h : Header) → Reads s h → reading s ≡ Ok h
 unfolding reading ports_reading misplaced_in
 passes s h r =
     simp (r.length_right, r.edition_right, r.count_right, r.total_right, r.offset_right, kept Tree, kept Chain, kept Settings, kept Start, sym (none_is r.in_place), r.end_right)
-    (ap Read (sym r.header))
+    (ap Ok (sym r.header))
   where
-    kept : (rule : Rule) → first_in (breaks rule s) 0 (count_of s) ≡ Nothing
+    kept : (rule : Rule) → first_in (breaks rule s) 0 (count_of s) ≡ None
     kept rule = sym (none_is (r.rules_kept rule))
 
 -- numbers 3, 6 and 7 make the tree sane
@@ -112,7 +110,7 @@ reads_sane s h r =
     }
 
 -- what the calls go on with: the count of ports, and the tree
-module _ (s : List ℕ) (h : Header) (read : reading s ≡ Read h) where
+module _ (s : List ℕ) (h : Header) (read : reading s ≡ Ok h) where
   pub count_read : h.count ≡ count_of s
   count_read = count_of_lem s h (reads s h read).header
 

@@ -1,18 +1,16 @@
 -- The reading as the code comes to it, one number after the other.
-use Rattle.std.specs.Prelude.{ℕ, Bool, true, ltb}
-use Rattle.least.specs.declared.Found.{Found}
-use Rattle.least.specs.declared.Found.TheVariants.{At, Nothing}
-use Rattle.picture.specs.declared.Reading.{Reading}
-use Rattle.picture.specs.declared.Reading.TheVariants.{Read, Refused}
+use Rattle.std.specs.Prelude.{ℕ, Bool, true, ltb, Option, Some, None, Result, Ok, Err}
 use Rattle.picture.specs.Reading.{refused}
+use Rattle.picture.specs.declared.Header.{Header}
+use Rattle.picture.specs.declared.Refusal.{Refusal}
 
 -- a reading so far, or the refusal with the port that the next number has found
-abbrev pub then_at : Reading → Found → ℕ → Reading
-then_at (Refused r) found number = Refused r
-then_at (Read h) (At p) number = refused number p
-then_at (Read h) Nothing number = Read h
+abbrev pub then_at : Result Header Refusal → Option ℕ → ℕ → Result Header Refusal
+then_at (Err r) found number = Err r
+then_at (Ok h) (Some p) number = refused number p
+then_at (Ok h) None number = Ok h
 
 -- a number that a port can have, or that of the end
-abbrev pub is_port : Found → Bool
-is_port (At p) = ltb p 256
-is_port Nothing = true
+abbrev pub is_port : Option ℕ → Bool
+is_port (Some p) = ltb p 256
+is_port None = true

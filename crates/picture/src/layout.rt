@@ -5,7 +5,6 @@ ghost use Rattle.picture.specs.Layout.{all_bytes, offset_in, vector_of};
 ghost use Rattle.picture.specs.Reading.{misplaced_in};
 
 use ids::PortNo;
-use least::Found;
 use registers::{Fpb, Mechanism, edition_of, record_at, sizes_of, vector_bytes, vectors_start};
 
 // The bytes of all vectors of a port.
@@ -20,7 +19,7 @@ pub fn all_bytes(f: Fpb) -> u64
 
 // The lowest port whose vectors start elsewhere than at the running offset, or 255 if they do not end at the total.
 #[tactic(auto, using(least::proofs::Laws::NoneIn, crate::proofs::Laws::all_bytes_same, crate::proofs::Laws::misplaced_end, crate::proofs::Laws::misplaced_here, crate::proofs::Laws::misplaced_nowhere, least::proofs::Laws::none_empty, least::proofs::Laws::none_more, crate::proofs::Laws::place_kept, crate::proofs::Laws::place_wrong_lem), unfolding(crate::specs::Layout::running_offset))]
-pub fn misplaced(s: &[u8], n: u8) -> Found
+pub fn misplaced(s: &[u8], n: u8) -> Option<u64>
     requires { n ≡ count_of s.now }
     ensures { result ≡ misplaced_in s.now }
 {
@@ -28,15 +27,15 @@ pub fn misplaced(s: &[u8], n: u8) -> Found
     let mut p: u8 = 0;
     while p < n {
         if vectors_start(s, PortNo(p)) as u64 != offset {
-            return Found::At(p as u64);
+            return Some(p as u64);
         }
         offset += all_bytes(sizes_of(s, PortNo(p)));
         p += 1;
     }
     if offset != s.len() as u64 {
-        return Found::At(PortNo::NONE.0 as u64);
+        return Some(PortNo::NONE.0 as u64);
     }
-    Found::Nothing
+    None
 }
 
 // The bytes between the start of a port's vectors and one of them.

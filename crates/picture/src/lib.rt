@@ -12,7 +12,6 @@ ghost use Rattle.picture.specs.Reading.{breaks, refused, ports_reading, reading}
 
 use ids::PortNo;
 pub use layout::{all_bytes, offset_in, vector};
-use least::Found;
 use registers::port_at;
 
 #[derive(Clone, Copy)]
@@ -29,12 +28,6 @@ pub struct Header {
 pub struct Refusal {
     pub number: u8,
     pub port: PortNo,
-}
-
-#[derive(Clone, Copy)]
-pub enum Reading {
-    Read(Header),
-    Refused(Refusal),
 }
 
 // The rules that each port keeps by itself: numbers 6 to 9.
@@ -61,35 +54,35 @@ fn breaks_rule(s: &[u8], p: PortNo, rule: Rule) -> bool
 
 // The lowest of n ports that breaks a rule.
 #[tactic(auto, using(least::proofs::Laws::NoneIn, least::proofs::Laws::at_is, least::proofs::Laws::none_empty, least::proofs::Laws::none_is, least::proofs::Laws::none_more, least::proofs::Laws::none_part))]
-fn lowest_culprit(s: &[u8], n: u8, rule: Rule) -> Found
+fn lowest_culprit(s: &[u8], n: u8, rule: Rule) -> Option<u64>
     ensures { result ≡ first_in (breaks rule s.now) 0 n }
 {
     let mut p: u8 = 0;
     while p < n {
         if breaks_rule(s, PortNo(p), rule) {
-            return Found::At(p as u64);
+            return Some(p as u64);
         }
         p += 1;
     }
-    Found::Nothing
+    None
 }
 
 // The answer for a picture that does not read.
-fn refuse(number: u8, port: PortNo) -> Reading
+fn refuse(number: u8, port: PortNo) -> Result<Header, Refusal>
     ensures { result ≡ refused number port.0 }
 {
-    Reading::Refused(Refusal { number, port })
+    Err(Refusal { number, port })
 }
 
 // The reading so far, or the refusal with the port that the next number has found.
-fn after(got: Reading, found: Found, number: u8) -> Reading
+fn after(got: Result<Header, Refusal>, found: Option<u64>, number: u8) -> Result<Header, Refusal>
     requires { is_port found ≡ true }
     ensures { result ≡ then_at got found number }
 {
-    let Reading::Read(_) = got else {
+    let Ok(_) = got else {
         return got;
     };
-    let Found::At(p) = found else {
+    let Some(p) = found else {
         return got;
     };
     refuse(number, PortNo(p as u8))
@@ -97,10 +90,16 @@ fn after(got: Reading, found: Found, number: u8) -> Reading
 
 // The same, of a rule that is looked for only where no lower number has refused the picture.
 #[tactic(auto, using(crate::proofs::Laws::port_found))]
-fn after_rule(s: &[u8], n: u8, got: Reading, rule: Rule, number: u8) -> Reading
+fn after_rule(
+    s: &[u8],
+    n: u8,
+    got: Result<Header, Refusal>,
+    rule: Rule,
+    number: u8,
+) -> Result<Header, Refusal>
     ensures { result ≡ then_at got (first_in (breaks rule s.now) 0 n) number }
 {
-    let Reading::Read(_) = got else {
+    let Ok(_) = got else {
         return got;
     };
     after(got, lowest_culprit(s, n, rule), number)
@@ -108,17 +107,17 @@ fn after_rule(s: &[u8], n: u8, got: Reading, rule: Rule, number: u8) -> Reading
 
 // Numbers 6 to 10, looked for over all ports one number after the other.
 #[tactic(auto, using(crate::proofs::Laws::count_of_lem, crate::proofs::Laws::place_found, crate::proofs::Laws::ports_chained, crate::proofs::Laws::refused_stays))]
-fn read_ports(s: &[u8], h: Header) -> Reading
+fn read_ports(s: &[u8], h: Header) -> Result<Header, Refusal>
     requires h_value { h ≡ header_of s.now }
     requires count_bound { h.count ≤ 64 }
     ensures { result ≡ ports_reading s.now }
 {
     let n = h.count as u8;
-    let tree = after_rule(s, n, Reading::Read(h), Rule::Tree, 6);
+    let tree = after_rule(s, n, Ok(h), Rule::Tree, 6);
     let chain = after_rule(s, n, tree, Rule::Chain, 7);
     let settings = after_rule(s, n, chain, Rule::Settings, 8);
     let start = after_rule(s, n, settings, Rule::Start, 9);
-    let Reading::Read(_) = start else {
+    let Ok(_) = start else {
         return start;
     };
     after(start, layout::misplaced(s, n), 10)
@@ -126,7 +125,7 @@ fn read_ports(s: &[u8], h: Header) -> Reading
 
 // Reads a picture: numbers 1 to 10, or its header.
 #[tactic(auto, using(crate::proofs::Laws::count_small), unfolding(crate::specs::Reading::reading))]
-pub fn read(s: &[u8]) -> Reading
+pub fn read(s: &[u8]) -> Result<Header, Refusal>
     ensures { result ≡ reading s.now }
 {
     if headers::length_wrong(s) {

@@ -6,7 +6,8 @@ ghost use Rattle.texts.specs.Lines.{holder_line};
 ghost use Rattle.reports.specs.Reports.{claim_line};
 
 use chassis::Hold;
-use judge::{ClaimAnswer, claim, refusal_finding};
+use judge::{claim, refusal_finding};
+use picture::Refusal;
 use std::io;
 use texts::Text;
 
@@ -21,12 +22,12 @@ fn hold_text(h: Hold) -> Text
 }
 
 // What is said of one port, or why that is not answered.
-pub fn claim_text(answer: ClaimAnswer) -> Text
+pub fn claim_text(answer: Result<Hold, Refusal>) -> Text
     ensures { result ≡ text_of (claim_line answer) }
 {
     match answer {
-        ClaimAnswer::Refused(r) => texts::refused_text(refusal_finding(r)),
-        ClaimAnswer::Claimed(h) => hold_text(h),
+        Err(r) => texts::refused_text(refusal_finding(r)),
+        Ok(h) => hold_text(h),
     }
 }
 
@@ -65,7 +66,7 @@ pub fn print_holders(
     end: u8,
 ) -> io::Result<()> {
     let first = claim(picture, 0, kind, target);
-    let ClaimAnswer::Claimed(_) = first else {
+    let Ok(_) = first else {
         return claim_text(first).with(b"\n").print(rt);
     };
     if !print_lines(rt, picture, kind, target, end)? {

@@ -8,7 +8,9 @@ ghost use Rattle.texts.specs.Texts.{text_of};
 ghost use Rattle.reports.specs.Reports.{report_of, trial_of, walk_of, ended};
 
 pub use held::{claim_text, print_holders};
-use judge::{Outcome, WalkAnswer, check, check_finding, refusal_finding, trial_check};
+use judge::{check, check_finding, refusal_finding, trial_check};
+use picture::Refusal;
+use routes::Walked;
 use texts::Text;
 
 // What the report says of a picture: two lines with `end` between them, or one.
@@ -30,14 +32,12 @@ pub fn trial<'a>(picture: &'a [u8], patch: &'a [u8], end: u8) -> Text
 }
 
 // Where a packet goes, or why that is not answered; `config` tells a configuration request.
-fn walked(config: bool, answer: WalkAnswer) -> Text
+fn walked(config: bool, answer: Result<Walked, Refusal>) -> Text
     ensures { result ≡ text_of (walk_of config answer) }
 {
-    let outcome = answer.outcome;
-    let path = answer.path;
-    match outcome {
-        Outcome::Refused(r) => texts::refused_text(refusal_finding(r)),
-        Outcome::Ended(end) => texts::walk_text(config, end, path),
+    match answer {
+        Err(r) => texts::refused_text(refusal_finding(r)),
+        Ok(w) => texts::walk_text(config, w.end, w.path),
     }
 }
 
@@ -59,7 +59,7 @@ pub fn trial_lines<'a>(picture: &'a [u8], patch: &'a [u8]) -> Text
 
 // All that the program `route` prints for a packet of this kind; 2 is a configuration request.
 #[tactic(auto, using(texts::proofs::Laws::begun))]
-pub fn walk_lines(kind: u32, answer: WalkAnswer) -> Text
+pub fn walk_lines(kind: u32, answer: Result<Walked, Refusal>) -> Text
     ensures { result ≡ text_of (ended (walk_of (eqb kind 2) answer)) }
 {
     walked(kind == 2, answer).with(b"\n")

@@ -2,14 +2,13 @@
 // a device port, TARGET a number in hexadecimal.
 #![tactic(auto)]
 
-use arguments::Number;
 use std::env::Env;
 use std::io;
 
 // The packet kind that a word names: 0 ID, 1 address, 2 configuration request.
-fn kind_of(word: &[u8]) -> Number {
+fn kind_of(word: &[u8]) -> Option<u64> {
     if arguments::same(word, b"config") {
-        return Number::Is(2);
+        return Some(2);
     }
     arguments::target_kind(word)
 }
@@ -18,21 +17,21 @@ fn kind_of(word: &[u8]) -> Number {
 const HOST: u64 = 255;
 
 // The host, or the number of a port, which 255 is not.
-fn start_of(word: &[u8]) -> Number {
+fn start_of(word: &[u8]) -> Option<u64> {
     if arguments::same(word, b"host") {
-        return Number::Is(HOST);
+        return Some(HOST);
     }
-    let Number::Is(port) = arguments::decimal(word) else {
-        return Number::Bad;
+    let Some(port) = arguments::decimal(word) else {
+        return None;
     };
     if port == HOST {
-        return Number::Bad;
+        return None;
     }
-    Number::Is(port)
+    Some(port)
 }
 
 // The number that argument i stands for: the packet kind, the start and the target, in this order.
-fn argument(rt: &impl Env, i: usize) -> Number {
+fn argument(rt: &impl Env, i: usize) -> Option<u64> {
     let mut word = [0u8; 32];
     let n = inputs::word(rt, i, &mut word);
     if i == 1 {
@@ -55,13 +54,13 @@ fn main(rt: HostRuntime) -> io::Result<()> {
     if !inputs::has_word(&rt, 3) | inputs::has_word(&rt, 4) {
         return print_usage(&rt);
     }
-    let Number::Is(kind) = argument(&rt, 1) else {
+    let Some(kind) = argument(&rt, 1) else {
         return print_usage(&rt);
     };
-    let Number::Is(start) = argument(&rt, 2) else {
+    let Some(start) = argument(&rt, 2) else {
         return print_usage(&rt);
     };
-    let Number::Is(target) = argument(&rt, 3) else {
+    let Some(target) = argument(&rt, 3) else {
         return print_usage(&rt);
     };
     let mut buffer = [0u8; 65537];

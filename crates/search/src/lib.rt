@@ -6,12 +6,11 @@ ghost use Rattle.least.specs.Least.{first_in, soonest};
 ghost use Rattle.spans.specs.Reaches.{fits};
 ghost use Rattle.search.specs.Search.{reaches_is, meets};
 
-use least::Found;
 use spans::Reach;
 
 // The next target that is reached, or, where that is wanted, that is not.
 #[tactic(auto, using(crate::proofs::Laws::unwanted, crate::proofs::Laws::wanted))]
-fn next_where(d: Reach, v: &[u8], w: &[u8], want: bool, from: u64) -> Found
+fn next_where(d: Reach, v: &[u8], w: &[u8], want: bool, from: u64) -> Option<u64>
     requires { fits d }
     ensures { result ≡ first_in (reaches_is d v.now w.now want) from (2 ^ 64) }
 {
@@ -32,25 +31,25 @@ pub fn least_both(
     vb: &[u8],
     wb: &[u8],
     want: bool,
-    best: Found,
-) -> Found
+    best: Option<u64>,
+) -> Option<u64>
     requires { fits a × fits b }
     ensures { result ≡ soonest best
         (first_in (meets a va.now wa.now b vb.now wb.now want) 0 (2 ^ 64)) }
 {
     let mut i = 0;
     loop {
-        let Found::At(j) = spans::next_reached(a, va, wa, i) else {
+        let Some(j) = spans::next_reached(a, va, wa, i) else {
             return best;
         };
         if least::is_by(best, j) {
             return best;
         }
-        let Found::At(k) = next_where(b, vb, wb, want, j) else {
+        let Some(k) = next_where(b, vb, wb, want, j) else {
             return best;
         };
         if k == j {
-            return least::sooner(best, Found::At(k));
+            return least::sooner(best, Some(k));
         }
         i = k;
     }

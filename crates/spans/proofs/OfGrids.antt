@@ -10,8 +10,6 @@ use native.Mathlib.Omega.{arith}
 use lib.Dec.{leb, ltb}
 use lib.Pow.{pow_pos, shr_mono}
 use borrow.Author.Tests.{le-leb, lt-leb, lt-ltb, le-ltb}
-use Rattle.least.specs.declared.Found.{Found}
-use Rattle.least.specs.declared.Found.TheVariants.{At, Nothing}
 use Rattle.least.specs.Least.{first_in, soonest, is_by}
 use Rattle.least.proofs.Laws.{NoneIn, LeastAt, Least, of_range, least_is, at_is, none_is, is_at, is_none, none_part, first_above, here_at, either_first, best_by, none_empty, none_join, soonest_nothing}
 use Rattle.vectors.specs.declared.Settings.{Settings}
@@ -21,6 +19,7 @@ use Rattle.spans.specs.declared.grids.Grid.{Grid}
 use Rattle.spans.specs.Ranges.{in_range, out_of}
 use Rattle.spans.specs.Grids.{hit_in, missed_in, unset, begins_from, clipped}
 use Rattle.spans.proofs.OfRanges.{below, above}
+use Rattle.std.specs.Prelude.{Option, Some, None}
 
 zero_right : (a : Bool) → (a && false) ≡ false
 zero_right true = refl
@@ -49,7 +48,7 @@ module _ (s : Settings) (fits : s.start < 2 ^ 64) (q e : ℕ → Bool) (same : (
   begins {f} {i} l k a = go (dec_lt ((2 ^ 64 - 1 - s.start) / 2 ^ s.scale) i)
     where
       go : Dec ((2 ^ 64 - 1 - s.start) / 2 ^ s.scale < i)
-          → cond (ltb ((2 ^ 64 - 1 - s.start) / 2 ^ s.scale) i) Nothing (At (max f (s.start + i * 2 ^ s.scale))) ≡ first_in q f (2 ^ 64)
+          → cond (ltb ((2 ^ 64 - 1 - s.start) / 2 ^ s.scale) i) None (Some (max f (s.start + i * 2 ^ s.scale))) ≡ first_in q f (2 ^ 64)
       go (yes p) =
           rw (lt-ltb _ _ p)
           (none_is
@@ -94,14 +93,14 @@ module _ (v : List ℕ) (s : Settings) where
     before_hit = record { none = λ t l h. hits_below v s t (omega arith) }
 
     pub hit_at : {i : ℕ} → s.start < 2 ^ 64 → from < 2 ^ 64
-        → At i ≡ first_in (entry_is v true) (entry_at s (max from s.start)) s.size
+        → Some i ≡ first_in (entry_is v true) (entry_at s (max from s.start)) s.size
         → begins_from s (max from s.start) i ≡ first_in (hits v s) from (2 ^ 64)
     hit_at fits k e =
         begins s fits (hits v s) (entry_set v s.size) (hits_from v s) (omega arith) (omega arith) (set_least (is_at _ _ _ e))
         ∙ first_above (2 ^ 64) (omega arith) before_hit
 
-    pub hit_none : Nothing ≡ first_in (entry_is v true) (entry_at s (max from s.start)) s.size
-        → Nothing ≡ first_in (hits v s) from (2 ^ 64)
+    pub hit_none : None ≡ first_in (entry_is v true) (entry_at s (max from s.start)) s.size
+        → None ≡ first_in (hits v s) from (2 ^ 64)
     hit_none e =
         let beyond : 2 ^ 64 ≤ s.start + 2 ^ 64 * 2 ^ s.scale = omega (arith, pow_pos s.scale) in
         none_is
@@ -122,7 +121,7 @@ module _ (v : List ℕ) (s : Settings) where
   unfolding unset
   unset_below t l = rw (hits_below v s t l)
 
-  pub miss_below : (from : ℕ) → from < 2 ^ 64 → from < s.start → At from ≡ first_in (unset v s) from (2 ^ 64)
+  pub miss_below : (from : ℕ) → from < 2 ^ 64 → from < s.start → Some from ≡ first_in (unset v s) from (2 ^ 64)
   miss_below from k l = (here_at (unset v s) k).1 (unset_below from l)
 
   clear_is : (i : ℕ) → i < s.size → entry_clear v s.size i ≡ entry_is v false i
@@ -140,7 +139,7 @@ module _ (v : List ℕ) (s : Settings) where
   clear_none a = record { none = λ i l h. clear_is i h ∙ a.none i l h }
 
   module _ (from : ℕ) (l : s.start ≤ from) (fits : s.start < 2 ^ 64) (k : from < 2 ^ 64) where
-    pub miss_at : {i : ℕ} → At i ≡ first_in (entry_is v false) (entry_at s from) s.size → begins_from s from i ≡ first_in (unset v s) from (2 ^ 64)
+    pub miss_at : {i : ℕ} → Some i ≡ first_in (entry_is v false) (entry_at s from) s.size → begins_from s from i ≡ first_in (unset v s) from (2 ^ 64)
     miss_at {i} e =
         let a = is_at _ _ _ e in
         begins s fits (unset v s) (entry_clear v s.size) unset_from l k
@@ -160,7 +159,7 @@ module _ (v : List ℕ) (s : Settings) where
         rw (le-ltb ((2 ^ 64 - 1 - s.start) / 2 ^ s.scale) s.size (omega arith), here)
         ((here_at (unset v s) k).1 (unset_from from l ∙ clear_past (entry_at s from) h))
 
-    pub miss_end : Nothing ≡ first_in (entry_is v false) (entry_at s from) s.size → begins_from s from s.size ≡ first_in (unset v s) from (2 ^ 64)
+    pub miss_end : None ≡ first_in (entry_is v false) (entry_at s from) s.size → begins_from s from s.size ≡ first_in (unset v s) from (2 ^ 64)
     miss_end e = go (dec_le s.size (entry_at s from))
       where
         go : Dec (s.size ≤ entry_at s from) → begins_from s from s.size ≡ first_in (unset v s) from (2 ^ 64)
@@ -186,7 +185,7 @@ clip_first p q from hi and = least_is q from (2 ^ 64) (clipped (first_in p from 
     cut : (t : ℕ) → from ≤ t → hi < t → q t ≡ false
     cut t l h = and t l ∙ rw (lt-leb t hi h)
 
-    at : (n : ℕ) → LeastAt p from (2 ^ 64) n → Dec (n ≤ hi) → Least q from (2 ^ 64) (cond (leb n hi) (At n) Nothing)
+    at : (n : ℕ) → LeastAt p from (2 ^ 64) n → Dec (n ≤ hi) → Least q from (2 ^ 64) (cond (leb n hi) (Some n) None)
     at n a (yes h) =
         rw (le-leb n hi h)
         (record {
@@ -201,9 +200,9 @@ clip_first p q from hi and = least_is q from (2 ^ 64) (clipped (first_in p from 
         after t l (yes b) = fails t l (a.first.none t l b)
         after t l (no b) = cut t l (omega arith)
 
-    go : (f : Found) → Least p from (2 ^ 64) f → Least q from (2 ^ 64) (clipped f hi)
-    go (At n) a = at n a (dec_le n hi)
-    go Nothing a = record { none = λ t l m. fails t l (a.none t l m) }
+    go : (f : Option ℕ) → Least p from (2 ^ 64) f → Least q from (2 ^ 64) (clipped f hi)
+    go (Some n) a = at n a (dec_le n hi)
+    go None a = record { none = λ t l m. fails t l (a.none t l m) }
 
 -- within the range, and out of it
 module _ (v : List ℕ) (g : Grid) (from : ℕ) where
@@ -220,11 +219,11 @@ module _ (v : List ℕ) (g : Grid) (from : ℕ) where
   before_within = record { none = λ t l h. rw (below g.within t (omega arith)) }
 
   -- the best so far comes no later than the range, or than where the search begins
-  pub hit_in_best : (best : Found) → is_by best (max from g.within.lo) ≡ true → best ≡ soonest best (first_in (hit_in v g) from (2 ^ 64))
+  pub hit_in_best : (best : Option ℕ) → is_by best (max from g.within.lo) ≡ true → best ≡ soonest best (first_in (hit_in v g) from (2 ^ 64))
   hit_in_best best e = best_by best (2 ^ 64) e before_within
 
   -- the search begins past the range
-  pub hit_in_past : (best : Found) → g.within.hi < max from g.within.lo → best ≡ soonest best (first_in (hit_in v g) from (2 ^ 64))
+  pub hit_in_past : (best : Option ℕ) → g.within.hi < max from g.within.lo → best ≡ soonest best (first_in (hit_in v g) from (2 ^ 64))
   hit_in_past best past = sym (soonest_nothing best) ∙ ap (soonest best) (none_is (record { none = λ t l h. out t l (dec_lt t g.within.lo) }))
     where
       out : (t : ℕ) → from ≤ t → Dec (t < g.within.lo) → hit_in v g t ≡ false

@@ -6,42 +6,41 @@ use mathlib.Core.Bool.{Bool, true, ◌||◌, or-true, or_assoc}
 use mathlib.Core.List.{List}
 use native.Mathlib.Nat.{le_trans, le_antisymm}
 use borrow.Author.Tests.{not-true, not-false}
-use Rattle.least.specs.declared.Found.{Found}
-use Rattle.least.specs.declared.Found.TheVariants.{At, Nothing}
 use Rattle.least.specs.Least.{first_in, soonest}
 use Rattle.least.proofs.Laws.{impossible, NoneIn, Least, Within, of_range, is_at, at_is, none_is, none_join, none_within, either_first}
 use Rattle.spans.specs.declared.Reach.{Reach}
 use Rattle.spans.specs.Ranges.{in_range, out_of, onward}
 use Rattle.spans.specs.Grids.{hit_in, missed_in}
 use Rattle.spans.specs.Reaches.{on_ranges, on_grids, reaches, misses, skipped}
+use Rattle.std.specs.Prelude.{Option, Some, None}
 
 -- where a finding stands that no r was passed for, from `i` on
-abbrev Passed : (ℕ → Bool) → ℕ → Found → Type 0
-Passed r i (At k) = (i ≤ k) × NoneIn r i k × (k < 2 ^ 64)
-Passed r i Nothing = NoneIn r i (2 ^ 64)
+abbrev Passed : (ℕ → Bool) → ℕ → Option ℕ → Type 0
+Passed r i (Some k) = (i ≤ k) × NoneIn r i k × (k < 2 ^ 64)
+Passed r i None = NoneIn r i (2 ^ 64)
 
 passed_first : (r p : ℕ → Bool) (i : ℕ) → Within r p → Passed r i (first_in p i (2 ^ 64))
 passed_first r p i w = go (first_in p i (2 ^ 64)) (of_range p i (2 ^ 64))
   where
-    go : (f : Found) → Least p i (2 ^ 64) f → Passed r i f
-    go (At k) a = (a.from, none_within w a.first, a.below)
-    go Nothing a = none_within w a
+    go : (f : Option ℕ) → Least p i (2 ^ 64) f → Passed r i f
+    go (Some k) a = (a.from, none_within w a.first, a.below)
+    go None a = none_within w a
 
-passed_on : (r p : ℕ → Bool) (i : ℕ) (f : Found) → Within r p → Passed r i f → Passed r i (onward p f)
-passed_on r p i Nothing w a = a
-passed_on r p i (At j) w a = go (first_in p j (2 ^ 64)) (passed_first r p j w)
+passed_on : (r p : ℕ → Bool) (i : ℕ) (f : Option ℕ) → Within r p → Passed r i f → Passed r i (onward p f)
+passed_on r p i None w a = a
+passed_on r p i (Some j) w a = go (first_in p j (2 ^ 64)) (passed_first r p j w)
   where
-    go : (f : Found) → Passed r j f → Passed r i f
-    go (At k) b = (le_trans a.0 b.0, none_join a.1 b.1, b.2)
-    go Nothing b = none_join a.1 b
+    go : (f : Option ℕ) → Passed r j f → Passed r i f
+    go (Some k) b = (le_trans a.0 b.0, none_join a.1 b.1, b.2)
+    go None b = none_join a.1 b
 
 -- where the skip ends at `i` itself, it began there, and the test holds there
-stayed : (r p : ℕ → Bool) (i : ℕ) (f : Found) → Passed r i f → At i ≡ onward p f → (At i ≡ f) × (p i ≡ true)
-stayed r p i Nothing a e = (cc, impossible (cc))
-stayed r p i (At j) a e =
+stayed : (r p : ℕ → Bool) (i : ℕ) (f : Option ℕ) → Passed r i f → Some i ≡ onward p f → (Some i ≡ f) × (p i ≡ true)
+stayed r p i None a e = (cc, impossible (cc))
+stayed r p i (Some j) a e =
     let b = is_at p j (2 ^ 64) e in
     let same : i ≡ j = le_antisymm a.0 b.from in
-    (ap At same, b.holds)
+    (ap Some same, b.holds)
 
 module _ (d : Reach) (v w : List ℕ) where
   -- on a range, or hit in the one grid
@@ -104,13 +103,13 @@ module _ (d : Reach) (v w : List ℕ) where
 
   -- a skip passes nothing but what is reached, and stays only at what is not
   module _ (i : ℕ) where
-    abbrev past_first : Found
+    abbrev past_first : Option ℕ
     past_first = first_in (out_of d.first) i (2 ^ 64)
 
-    abbrev past_ranges : Found
+    abbrev past_ranges : Option ℕ
     past_ranges = onward (out_of d.second) past_first
 
-    abbrev past_one : Found
+    abbrev past_one : Option ℕ
     past_one = onward (missed_in v d.one) past_ranges
 
     passed₁ : Passed (misses d v w) i past_first
@@ -122,16 +121,16 @@ module _ (d : Reach) (v w : List ℕ) where
     passed₃ : Passed (misses d v w) i past_one
     passed₃ = passed_on (misses d v w) (missed_in v d.one) i past_ranges within_one passed₂
 
-    passed : (f : Found) → f ≡ skipped d v w i → Passed (misses d v w) i f
+    passed : (f : Option ℕ) → f ≡ skipped d v w i → Passed (misses d v w) i f
     unfolding skipped
     passed f e =
         subst (Passed (misses d v w) i) (sym e)
         (passed_on (misses d v w) (missed_in w d.other) i past_one within_other passed₃)
 
-    pub skip_at : {k : ℕ} → At k ≡ skipped d v w i → (i ≤ k) × NoneIn (misses d v w) i k × (k < 2 ^ 64)
-    skip_at {k} e = passed (At k) e
+    pub skip_at : {k : ℕ} → Some k ≡ skipped d v w i → (i ≤ k) × NoneIn (misses d v w) i k × (k < 2 ^ 64)
+    skip_at {k} e = passed (Some k) e
 
-    stays : At i ≡ skipped d v w i → misses d v w i ≡ true
+    stays : Some i ≡ skipped d v w i → misses d v w i ≡ true
     unfolding skipped
     stays e =
         let y = stayed (misses d v w) (missed_in w d.other) i past_one passed₃ e in
@@ -141,10 +140,10 @@ module _ (d : Reach) (v w : List ℕ) where
 
     -- the search for what is not reached, which has come to `i`: it goes on, finds what it looks for, or finds that there is none
     module _ {from : ℕ} (came : (from ≤ i) × NoneIn (misses d v w) from i) where
-      pub skip_more : {k : ℕ} → At k ≡ skipped d v w i → (from ≤ k) × NoneIn (misses d v w) from k
+      pub skip_more : {k : ℕ} → Some k ≡ skipped d v w i → (from ≤ k) × NoneIn (misses d v w) from k
       skip_more e = (le_trans came.0 (skip_at e).0, none_join came.1 (skip_at e).1)
 
-      pub skip_found : {k : ℕ} → At k ≡ skipped d v w i → k ≡ i → At k ≡ first_in (misses d v w) from (2 ^ 64)
+      pub skip_found : {k : ℕ} → Some k ≡ skipped d v w i → k ≡ i → Some k ≡ first_in (misses d v w) from (2 ^ 64)
       skip_found {k} e same =
           at_is
           (record {
@@ -154,5 +153,5 @@ module _ (d : Reach) (v w : List ℕ) where
             first = (skip_more e).1;
           })
 
-      pub skip_none : Nothing ≡ skipped d v w i → Nothing ≡ first_in (misses d v w) from (2 ^ 64)
-      skip_none e = none_is (none_join came.1 (passed Nothing e))
+      pub skip_none : None ≡ skipped d v w i → None ≡ first_in (misses d v w) from (2 ^ 64)
+      skip_none e = none_is (none_join came.1 (passed None e))

@@ -1,7 +1,5 @@
 -- The entries of a vector that count within a range.
-use Rattle.std.specs.Prelude.{ℕ, ◌+◌, ◌-◌, ◌*◌, ◌/◌, ◌^◌, max, Bool, not, cond, ◌&&◌, List, leb, ltb}
-use Rattle.least.specs.declared.Found.{Found}
-use Rattle.least.specs.declared.Found.TheVariants.{At, Nothing}
+use Rattle.std.specs.Prelude.{ℕ, ◌+◌, ◌-◌, ◌*◌, ◌/◌, ◌^◌, max, Bool, not, cond, ◌&&◌, List, leb, ltb, Option, Some, None}
 use Rattle.vectors.specs.declared.Settings.{Settings}
 use Rattle.vectors.specs.Vectors.{hits}
 use Rattle.spans.specs.declared.grids.Grid.{Grid}
@@ -19,11 +17,11 @@ unfoldable pub unset : List ℕ → Settings → ℕ → Bool
 unset v s t = not (hits v s t)
 
 -- where an entry begins, or `from` if that is later; none, if it lies past the last target
-unfoldable pub begins_from : Settings → ℕ → ℕ → Found
+unfoldable pub begins_from : Settings → ℕ → ℕ → Option ℕ
 begins_from s from i =
-    cond (ltb ((2 ^ 64 - 1 - s.start) / 2 ^ s.scale) i) Nothing (At (max from (s.start + i * 2 ^ s.scale)))
+    cond (ltb ((2 ^ 64 - 1 - s.start) / 2 ^ s.scale) i) None (Some (max from (s.start + i * 2 ^ s.scale)))
 
 -- a finding, unless it lies above `hi`
-unfoldable pub clipped : Found → ℕ → Found
-clipped (At t) hi = cond (leb t hi) (At t) Nothing
-clipped Nothing hi = Nothing
+unfoldable pub clipped : Option ℕ → ℕ → Option ℕ
+clipped (Some t) hi = cond (leb t hi) (Some t) None
+clipped None hi = None

@@ -1,7 +1,5 @@
 -- Ranges of targets.
-use Rattle.std.specs.Prelude.{ℕ, ◌^◌, Bool, not, ◌&&◌, leb}
-use Rattle.least.specs.declared.Found.{Found}
-use Rattle.least.specs.declared.Found.TheVariants.{At, Nothing}
+use Rattle.std.specs.Prelude.{ℕ, ◌^◌, Bool, not, ◌&&◌, leb, Option, Some, None}
 use Rattle.least.specs.Least.{first_in}
 use Rattle.spans.specs.declared.ranges.Range.{Range}
 
@@ -13,6 +11,6 @@ unfoldable pub out_of : Range → ℕ → Bool
 out_of r t = not (in_range r t)
 
 -- the first that passes, from a finding on
-abbrev pub onward : (ℕ → Bool) → Found → Found
-onward test (At i) = first_in test i (2 ^ 64)
-onward test Nothing = Nothing
+abbrev pub onward : (ℕ → Bool) → Option ℕ → Option ℕ
+onward test (Some i) = first_in test i (2 ^ 64)
+onward test None = None

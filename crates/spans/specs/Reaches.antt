@@ -1,6 +1,5 @@
 -- What one port reaches in one space.
-use Rattle.std.specs.Prelude.{ℕ, ◌<◌, ◌^◌, Bool, not, ◌||◌, List}
-use Rattle.least.specs.declared.Found.{Found}
+use Rattle.std.specs.Prelude.{ℕ, ◌<◌, ◌^◌, Bool, not, ◌||◌, List, Option}
 use Rattle.least.specs.Least.{first_in}
 use Rattle.spans.specs.declared.Reach.{Reach}
 use Rattle.spans.specs.Ranges.{in_range, out_of, onward}
@@ -24,6 +23,6 @@ unfoldable pub misses : Reach → List ℕ → List ℕ → ℕ → Bool
 misses d v w t = not (reaches d v w t)
 
 -- out of the first range, then out of the second, then past the one grid and past the other
-unfoldable pub skipped : Reach → List ℕ → List ℕ → ℕ → Found
+unfoldable pub skipped : Reach → List ℕ → List ℕ → ℕ → Option ℕ
 skipped d v w i =
     onward (missed_in w d.other) (onward (missed_in v d.one) (onward (out_of d.second) (first_in (out_of d.first) i (2 ^ 64))))

@@ -7,7 +7,6 @@ ghost use Rattle.spans.specs.Grids.{begins_from, clipped, unset, hit_in, missed_
 
 use crate::ranges;
 use crate::ranges::Range;
-use least::Found;
 use vectors::Settings;
 
 // A vector's settings, and the targets for which its entries count.
@@ -19,40 +18,40 @@ pub struct Grid {
 
 // Where an entry begins, or `from` if that is later; an entry past the last target begins nowhere.
 #[tactic(auto, using(crate::proofs::OfGrids::begins_below, crate::proofs::OfGrids::shift_exact), unfolding(crate::specs::Grids::begins_from))]
-fn begin(s: Settings, from: u64, i: u64) -> Found
+fn begin(s: Settings, from: u64, i: u64) -> Option<u64>
     requires { s.scale < 64 }
     ensures { result ≡ begins_from s from i }
 {
     let last = (u64::MAX - s.start) >> s.scale;
     if last < i {
-        return Found::Nothing;
+        return None;
     }
-    Found::At(ranges::later(from, s.start + (i << s.scale)))
+    Some(ranges::later(from, s.start + (i << s.scale)))
 }
 
 // The next target whose entry is set.
 #[tactic(auto, using(crate::proofs::OfGrids::hit_at, crate::proofs::OfGrids::hit_none))]
-fn next_hit(v: &[u8], s: Settings, from: u64) -> Found
+fn next_hit(v: &[u8], s: Settings, from: u64) -> Option<u64>
     requires { s.scale < 64 }
     ensures { result ≡ first_in (hits v.now s) from (2 ^ 64) }
 {
     let f = ranges::later(from, s.start);
-    let Found::At(i) = vectors::next_entry(v, true, (f - s.start) >> s.scale, s.size) else {
-        return Found::Nothing;
+    let Some(i) = vectors::next_entry(v, true, (f - s.start) >> s.scale, s.size) else {
+        return None;
     };
     begin(s, f, i)
 }
 
 // The next target whose entry is not set, or that has none.
 #[tactic(auto, using(crate::proofs::OfGrids::miss_at, crate::proofs::OfGrids::miss_below, crate::proofs::OfGrids::miss_end))]
-fn next_miss(v: &[u8], s: Settings, from: u64) -> Found
+fn next_miss(v: &[u8], s: Settings, from: u64) -> Option<u64>
     requires { s.scale < 64 }
     ensures { result ≡ first_in (unset v.now s) from (2 ^ 64) }
 {
     if from < s.start {
-        return Found::At(from);
+        return Some(from);
     }
-    let Found::At(i) = vectors::next_entry(v, false, (from - s.start) >> s.scale, s.size) else {
+    let Some(i) = vectors::next_entry(v, false, (from - s.start) >> s.scale, s.size) else {
         return begin(s, from, s.size);
     };
     begin(s, from, i)
@@ -60,24 +59,18 @@ fn next_miss(v: &[u8], s: Settings, from: u64) -> Found
 
 // A finding, unless it lies above `hi`.
 #[tactic(auto, unfolding(crate::specs::Grids::clipped))]
-fn clip(found: Found, hi: u64) -> Found
+fn clip(found: Option<u64>, hi: u64) -> Option<u64>
     ensures { result ≡ clipped found hi }
 {
     match found {
-        Found::At(t) => {
-            if t <= hi {
-                Found::At(t)
-            } else {
-                Found::Nothing
-            }
-        }
-        Found::Nothing => Found::Nothing,
+        Some(t) => { if t <= hi { Some(t) } else { None } }
+        None => None,
     }
 }
 
 // The next target within the range that is hit, or the best so far, if that is sooner; the vector is read only if it can be.
 #[tactic(auto, using(crate::proofs::OfGrids::hit_in_best, crate::proofs::OfGrids::hit_in_lem, crate::proofs::OfGrids::hit_in_past))]
-pub fn next_hit_in(v: &[u8], g: Grid, from: u64, best: Found) -> Found
+pub fn next_hit_in(v: &[u8], g: Grid, from: u64, best: Option<u64>) -> Option<u64>
     requires { g.settings.scale < 64 }
     ensures { result ≡ soonest best (first_in (hit_in v.now g) from (2 ^ 64)) }
 {
@@ -94,7 +87,7 @@ pub fn next_hit_in(v: &[u8], g: Grid, from: u64, best: Found) -> Found
 
 // The next target out of the range, or missed; the vector is read only within the range.
 #[tactic(auto, using(crate::proofs::OfGrids::miss_in, crate::proofs::OfGrids::miss_in_out))]
-pub fn next_miss_in(v: &[u8], g: Grid, from: u64) -> Found
+pub fn next_miss_in(v: &[u8], g: Grid, from: u64) -> Option<u64>
     requires { g.settings.scale < 64 }
     ensures { result ≡ first_in (missed_in v.now g) from (2 ^ 64) }
 {
@@ -106,12 +99,12 @@ pub fn next_miss_in(v: &[u8], g: Grid, from: u64) -> Found
 }
 
 // The same, from what was found before.
-pub fn miss_from(v: &[u8], g: Grid, found: Found) -> Found
+pub fn miss_from(v: &[u8], g: Grid, found: Option<u64>) -> Option<u64>
     requires { g.settings.scale < 64 }
     ensures { result ≡ onward (missed_in v.now g) found }
 {
     match found {
-        Found::At(i) => next_miss_in(v, g, i),
-        Found::Nothing => Found::Nothing,
+        Some(i) => next_miss_in(v, g, i),
+        None => None,
     }
 }

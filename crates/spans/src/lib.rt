@@ -10,7 +10,6 @@ ghost use Rattle.spans.specs.Reaches.{fits, reaches, misses, skipped};
 
 use crate::grids::Grid;
 use crate::ranges::Range;
-use least::Found;
 
 // Two ranges and two vectors' grids. What is off is an empty range, or a grid within one.
 #[derive(Clone, Copy)]
@@ -23,7 +22,7 @@ pub struct Reach {
 
 // The next target, from `from` on, that is reached.
 #[tactic(auto, using(crate::proofs::OfReaches::reach_first))]
-pub fn next_reached(d: Reach, v: &[u8], w: &[u8], from: u64) -> Found
+pub fn next_reached(d: Reach, v: &[u8], w: &[u8], from: u64) -> Option<u64>
     requires { fits d }
     ensures { result ≡ first_in (reaches d v.now w.now) from (2 ^ 64) }
 {
@@ -38,7 +37,7 @@ pub fn next_reached(d: Reach, v: &[u8], w: &[u8], from: u64) -> Found
 // From a target out of the first range, from there out of the second, and past the grids in the same way: the same target
 // exactly if it is not reached.
 #[tactic(auto, unfolding(crate::specs::Reaches::skipped))]
-fn skip(d: Reach, v: &[u8], w: &[u8], i: u64) -> Found
+fn skip(d: Reach, v: &[u8], w: &[u8], i: u64) -> Option<u64>
     requires { fits d }
     ensures { result ≡ skipped d v.now w.now i }
 {
@@ -50,17 +49,17 @@ fn skip(d: Reach, v: &[u8], w: &[u8], i: u64) -> Found
 
 // The next target, from `from` on, that is not reached.
 #[tactic(auto, using(least::proofs::Laws::none_empty, crate::proofs::OfReaches::skip_at, crate::proofs::OfReaches::skip_found, crate::proofs::OfReaches::skip_more, crate::proofs::OfReaches::skip_none))]
-pub fn next_unreached(d: Reach, v: &[u8], w: &[u8], from: u64) -> Found
+pub fn next_unreached(d: Reach, v: &[u8], w: &[u8], from: u64) -> Option<u64>
     requires { fits d }
     ensures { result ≡ first_in (misses d v.now w.now) from (2 ^ 64) }
 {
     let mut i = from;
     loop {
-        let Found::At(k) = skip(d, v, w, i) else {
-            return Found::Nothing;
+        let Some(k) = skip(d, v, w, i) else {
+            return None;
         };
         if k == i {
-            return Found::At(k);
+            return Some(k);
         }
         i = k;
     }

@@ -3,8 +3,6 @@ ghost use Rattle.std.specs.Prelude.{◌≡◌, ◌^◌, max};
 ghost use Rattle.least.specs.Least.{first_in};
 ghost use Rattle.spans.specs.Ranges.{in_range, out_of, onward};
 
-use least::Found;
-
 // Both ends belong to it; it is empty where `lo` is above `hi`.
 #[derive(Clone, Copy)]
 pub struct Range {
@@ -21,40 +19,36 @@ pub fn later(a: u64, b: u64) -> u64
 
 // The next target in a range.
 #[tactic(auto, using(crate::proofs::OfRanges::in_at, crate::proofs::OfRanges::in_none))]
-pub fn next_in(r: Range, from: u64) -> Found
+pub fn next_in(r: Range, from: u64) -> Option<u64>
     ensures { result ≡ first_in (in_range r) from (2 ^ 64) }
 {
     let t = later(from, r.lo);
-    if t <= r.hi {
-        Found::At(t)
-    } else {
-        Found::Nothing
-    }
+    if t <= r.hi { Some(t) } else { None }
 }
 
 // The next target out of a range.
 #[tactic(auto, using(crate::proofs::OfRanges::out_already, crate::proofs::OfRanges::out_at_once, crate::proofs::OfRanges::out_never, crate::proofs::OfRanges::out_next))]
-pub fn next_out(r: Range, from: u64) -> Found
+pub fn next_out(r: Range, from: u64) -> Option<u64>
     ensures { result ≡ first_in (out_of r) from (2 ^ 64) }
 {
     if from < r.lo {
-        return Found::At(from);
+        return Some(from);
     }
     if r.hi < from {
-        return Found::At(from);
+        return Some(from);
     }
     if r.hi == u64::MAX {
-        return Found::Nothing;
+        return None;
     }
-    Found::At(r.hi + 1)
+    Some(r.hi + 1)
 }
 
 // The same, from what was found before.
-pub fn out_from(r: Range, found: Found) -> Found
+pub fn out_from(r: Range, found: Option<u64>) -> Option<u64>
     ensures { result ≡ onward (out_of r) found }
 {
     match found {
-        Found::At(i) => next_out(r, i),
-        Found::Nothing => Found::Nothing,
+        Some(i) => next_out(r, i),
+        None => None,
     }
 }

@@ -5,7 +5,6 @@ ghost use Rattle.least.specs.Least.{first_in};
 ghost use Rattle.strips.specs.Strips.{digit, marked, marked_both, Marks, words_of};
 
 use crate::marks::mark_word;
-use least::Found;
 
 // Whether a unit is marked.
 #[tactic(auto, unfolding(crate::specs::Strips::marked))]
@@ -26,7 +25,7 @@ fn wanted(x: u64, want: bool) -> u64
 
 // The first unit of the first `words` words that is marked in a, and in b or not, as is wanted.
 #[tactic(auto, using(least::proofs::Laws::NoneIn, least::proofs::Laws::at_is, crate::proofs::OfMarks::both_digits, vectors::proofs::Digits::digits_least, vectors::proofs::Digits::digits_none, least::proofs::Laws::none_empty, least::proofs::Laws::none_is, least::proofs::Laws::none_join, least::proofs::Laws::none_part))]
-pub fn first_of_both(a: &[u64], b: &[u64], want: bool, words: usize) -> Found
+pub fn first_of_both(a: &[u64], b: &[u64], want: bool, words: usize) -> Option<u64>
     requires { (words ≤ length a.now) × (words ≤ length b.now) × (words ≤ 128) }
     ensures { result ≡ first_in (marked_both a.now b.now want) 0 (64 * words) }
 {
@@ -34,11 +33,11 @@ pub fn first_of_both(a: &[u64], b: &[u64], want: bool, words: usize) -> Found
     while k < words {
         let both = a[k] & wanted(b[k], want);
         if both != 0 {
-            return Found::At(64 * (k as u64) + u64::trailing_zeros(both) as u64);
+            return Some(64 * (k as u64) + u64::trailing_zeros(both) as u64);
         }
         k += 1;
     }
-    Found::Nothing
+    None
 }
 
 // Marks in a what is marked in the first `words` words of b.

@@ -6,7 +6,6 @@ ghost use Rattle.strips.specs.Strips.{Marks, grid_from, small, entry_units};
 use crate::amounts::{left_of, lower};
 use crate::placed::mark_from;
 use crate::ranges::mark_range;
-use least::Found;
 use spans::ranges::Range;
 use vectors::{Settings, next_entry, word};
 
@@ -50,7 +49,7 @@ fn mark_entries(strip: &mut [u64], base: u64, v: &[u8], g: Settings)
     let end = end_entry(base, g);
     let mut i = first_entry(base, g);
     loop {
-        let Found::At(e) = next_entry(v, true, i, end) else {
+        let Some(e) = next_entry(v, true, i, end) else {
             return;
         };
         mark_range(strip, base, units_of(g, e));

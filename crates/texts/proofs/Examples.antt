@@ -4,12 +4,12 @@ use mathlib.Core.List.{[], ◌∷◌}
 use mathlib.Core.Path.{◌≡◌, refl}
 use Rattle.ids.specs.Ids.{port_no}
 use Rattle.ids.specs.declared.Target.TheVariants.{Id}
-use Rattle.chassis.specs.declared.Shown.TheVariants.{NoTarget, Least}
 use Rattle.chassis.specs.declared.Decoders.{Decoders}
 use Rattle.chassis.specs.declared.Named.TheVariants.{NoPort, Port, Pair}
 use Rattle.chassis.specs.declared.End.TheVariants.{Device}
 use Rattle.paths.specs.Paths.{path_of}
 use Rattle.texts.specs.Texts.{ascii, digits_up_to, decimal}
+use Rattle.std.specs.Prelude.{Some, None}
 use Rattle.texts.specs.Lines.{
   spaced,
   each_spaced,
@@ -44,7 +44,7 @@ by_all = record { bus = true; rid = true; mem = true; pref = true; low = true; h
 pair : refused_line
     (record {
       number = 11;
-      target = Least (Id (record { 0 = 0x0300 }));
+      target = Some (Id (record { 0 = 0x0300 }));
       ports = Pair (record { port = port_no 2; own = false; decoders = by_bus }) (record { port = port_no 13; own = true; decoders = by_rid });
     })
     ≡ ascii "refused 11 id 0300 ports 2 by bus 13 by own rid"
@@ -55,11 +55,11 @@ every_word : holder_line (record { port = port_no 0; own = true; decoders = by_a
 unfolding by_all holder_line hold_words decoder_words spaced ascii decimal digits_up_to
 every_word = refl
 
-lost : refused_line (record { number = 15; target = NoTarget; ports = Port (port_no 3) }) ≡ ascii "refused 15 ports 3"
+lost : refused_line (record { number = 15; target = None; ports = Port (port_no 3) }) ≡ ascii "refused 15 ports 3"
 unfolding refused_line target_words ports_words spaced ascii decimal digits_up_to
 lost = refl
 
-clear : report_lines 1 (record { number = 0; target = NoTarget; ports = NoPort }) 10 ≡ ascii "ports 1\nclear"
+clear : report_lines 1 (record { number = 0; target = None; ports = NoPort }) 10 ≡ ascii "ports 1\nclear"
 unfolding report_lines spaced ascii decimal digits_up_to
 clear = refl
 

@@ -13,8 +13,6 @@ use lib.Seq.{take_all, take-append_seam}
 use Rattle.ids.specs.declared.PortNo.{PortNo}
 use Rattle.ids.specs.declared.Target.TheVariants.{Id, Addr}
 use Rattle.chassis.specs.declared.Finding.{Finding}
-use Rattle.chassis.specs.declared.Shown.{Shown}
-use Rattle.chassis.specs.declared.Shown.TheVariants.{NoTarget, Least}
 use Rattle.chassis.specs.declared.Decoders.{Decoders}
 use Rattle.chassis.specs.declared.Hold.{Hold}
 use Rattle.chassis.specs.declared.Named.{Named}
@@ -24,6 +22,8 @@ use Rattle.chassis.specs.declared.End.TheVariants.{Device, Function, Host, Unsup
 use Rattle.paths.specs.declared.Path.{Path}
 use Rattle.io.specs.Digits.{hex_digit_ascii}
 use Rattle.texts.specs.Texts.{ascii, digits_up_to, decimal, text_of}
+use Rattle.std.specs.Prelude.{Option, Some, None}
+use Rattle.ids.specs.declared.Target.{Target}
 use Rattle.texts.specs.Lines.{
   spaced,
   each_spaced,
@@ -80,11 +80,11 @@ unfolding each_spaced
 each_short [] fit = omega arith
 each_short (p ∷ ports) fit = rw length-append (omega (arith, byte_short p.0 fit.0, each_short ports fit.1))
 
-target_short : (shown : Shown) → length (target_words shown) ≤ 22
+target_short : (shown : Option Target) → length (target_words shown) ≤ 22
 unfolding target_words ascii
-target_short NoTarget = omega arith
-target_short (Least (Id rid)) = omega arith
-target_short (Least (Addr a)) = omega arith
+target_short None = omega arith
+target_short (Some (Id rid)) = omega arith
+target_short (Some (Addr a)) = omega arith
 
 -- a word that may apply is no longer than the word
 word_short : (applies : Bool) (word : List ℕ) (k : ℕ) → length word ≤ k → length (cond applies word []) ≤ k

@@ -14,10 +14,10 @@ each_spaced [] = []
 each_spaced (p ∷ ports) = spaced p.0 ++ each_spaced ports
 
 -- "where named by ` id ` or ` addr ` and lower-case hexadecimal digits (4 or 16)"
-unfoldable pub target_words : Shown → List ℕ
-target_words NoTarget = []
-target_words (Least (Id rid)) = ascii " id " ++ digits 16 4 rid.0
-target_words (Least (Addr a)) = ascii " addr " ++ digits 16 16 a
+unfoldable pub target_words : Option Target → List ℕ
+target_words None = []
+target_words (Some (Id rid)) = ascii " id " ++ digits 16 4 rid.0
+target_words (Some (Addr a)) = ascii " addr " ++ digits 16 16 a
 
 -- 02, Item 3: "after each port number, ` by` and those of ` own bus rid mem pref low high` that apply"; Item 4: "(` vga`, last)"
 unfoldable pub decoder_words : Decoders → List ℕ

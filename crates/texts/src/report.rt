@@ -5,17 +5,17 @@ ghost use Rattle.texts.specs.Lines.{target_words, ports_words, refused_line, rep
 
 use crate::Text;
 use crate::holds::with_hold;
-use chassis::{Finding, Named, Shown};
+use chassis::{Finding, Named};
 use ids::Target;
 
 // The text with the target that a number shows.
 #[tactic(auto, using(crate::proofs::Laws::behind), unfolding(crate::specs::Texts::appended, crate::specs::Texts::ascii, crate::specs::Lines::target_words))]
-fn with_target(text: Text, shown: Shown) -> Text
+fn with_target(text: Text, shown: Option<Target>) -> Text
     ensures { result ≡ appended text (target_words shown) }
 {
     match shown {
-        Shown::NoTarget => text,
-        Shown::Least(t) => match t {
+        None => text,
+        Some(t) => match t {
             Target::Id(rid) => text.with(b" id ").with_hex(rid.0 as u64, 4),
             Target::Addr(a) => text.with(b" addr ").with_hex(a, 16),
         },

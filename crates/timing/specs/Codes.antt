@@ -1,9 +1,9 @@
 -- What the call of the benchmarks gives back.
-use Rattle.std.specs.Prelude.{ℕ}
-use Rattle.picture.specs.declared.Reading.{Reading}
-use Rattle.picture.specs.declared.Reading.TheVariants.{Read, Refused as NotRead}
+use Rattle.std.specs.Prelude.{ℕ, Result, Ok, Err}
+use Rattle.picture.specs.declared.Header.{Header}
+use Rattle.picture.specs.declared.Refusal.{Refusal}
 
 -- 01's number, 0 where the picture reads
-abbrev pub reading_code : Reading → ℕ
-reading_code (Read h) = 0
-reading_code (NotRead r) = r.number
+abbrev pub reading_code : Result Header Refusal → ℕ
+reading_code (Ok h) = 0
+reading_code (Err r) = r.number

@@ -5,15 +5,15 @@ ghost use Rattle.std.specs.Prelude.{◌≡◌};
 ghost use Rattle.picture.specs.Reading.{reading};
 ghost use Rattle.timing.specs.Codes.{reading_code};
 
-use picture::Reading;
+use picture::{Header, Refusal};
 
 // The number of a reading.
-fn reading_code(got: Reading) -> u32
+fn reading_code(got: Result<Header, Refusal>) -> u32
     ensures { result ≡ reading_code got }
 {
     match got {
-        Reading::Read(_) => 0,
-        Reading::Refused(r) => r.number as u32,
+        Ok(_) => 0,
+        Err(r) => r.number as u32,
     }
 }
 

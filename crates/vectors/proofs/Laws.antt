@@ -9,24 +9,24 @@ use native.Mathlib.Omega.{arith}
 use lib.Dec.{ltb}
 use borrow.Author.Tests.{le-leb, lt-leb}
 use Rattle.least.proofs.Laws.{NoneIn, LeastAt}
-use Rattle.least.specs.declared.Found.TheVariants.{At, Nothing}
 use Rattle.vectors.specs.declared.Settings.{Settings}
 use Rattle.vectors.specs.Vectors.{applies, entry_at, entry_of, is_set, hits}
+use Rattle.std.specs.Prelude.{Some, None}
 
 -- a target is hit exactly if the entry that applies to it is set
-pub hits_entry : (v : List ℕ) (g : Settings) (t : ℕ) {i : ℕ} → At i ≡ entry_of g t → is_set v i ≡ hits v g t
+pub hits_entry : (v : List ℕ) (g : Settings) (t : ℕ) {i : ℕ} → Some i ≡ entry_of g t → is_set v i ≡ hits v g t
 unfolding entry_of hits
 hits_entry v g t {i} = go (applies g t)
   where
-    go : (b : Bool) → At i ≡ cond b (At (entry_at g t)) Nothing → is_set v i ≡ (b && is_set v (entry_at g t))
+    go : (b : Bool) → Some i ≡ cond b (Some (entry_at g t)) None → is_set v i ≡ (b && is_set v (entry_at g t))
     go true e = cc
     go false e = cc
 
-pub misses_entry : (v : List ℕ) (g : Settings) (t : ℕ) → Nothing ≡ entry_of g t → false ≡ hits v g t
+pub misses_entry : (v : List ℕ) (g : Settings) (t : ℕ) → None ≡ entry_of g t → false ≡ hits v g t
 unfolding entry_of hits
 misses_entry v g t = go (applies g t)
   where
-    go : (b : Bool) → Nothing ≡ cond b (At (entry_at g t)) Nothing → false ≡ (b && is_set v (entry_at g t))
+    go : (b : Bool) → None ≡ cond b (Some (entry_at g t)) None → false ≡ (b && is_set v (entry_at g t))
     go true e = cc
     go false e = refl
 

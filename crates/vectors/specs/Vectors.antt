@@ -1,8 +1,6 @@
 -- What the RID, MEM Low and MEM High vectors share, over size, start and granularity.
-use Rattle.std.specs.Prelude.{ℕ, ◌-◌, ◌/◌, ◌%◌, ◌^◌, Bool, cond, ◌&&◌, List, get_or, leb, ltb, eqb}
+use Rattle.std.specs.Prelude.{ℕ, ◌-◌, ◌/◌, ◌%◌, ◌^◌, Bool, cond, ◌&&◌, List, get_or, leb, ltb, eqb, Option, Some, None}
 use Rattle.std.specs.Bool.{beq}
-use Rattle.least.specs.declared.Found.{Found}
-use Rattle.least.specs.declared.Found.TheVariants.{At, Nothing}
 use Rattle.vectors.specs.declared.Settings.{Settings}
 
 -- 01, "What a port claims": "An entry applies if the target is not below the start and (target − start) / granularity is less than
@@ -13,8 +11,8 @@ entry_at g t = (t - g.start) / 2 ^ g.scale
 abbrev pub applies : Settings → ℕ → Bool
 applies g t = leb g.start t && ltb (entry_at g t) g.size
 
-unfoldable pub entry_of : Settings → ℕ → Found
-entry_of g t = cond (applies g t) (At (entry_at g t)) Nothing
+unfoldable pub entry_of : Settings → ℕ → Option ℕ
+entry_of g t = cond (applies g t) (Some (entry_at g t)) None
 
 -- 01, "The picture": "Entry i is bit i mod 8 of byte i/8."
 unfoldable pub is_set : List ℕ → ℕ → Bool

@@ -10,7 +10,6 @@ ghost use Rattle.least.specs.Least.{first_in};
 ghost use Rattle.vectors.specs.Vectors.{entry_of, is_set, entry_is, hits};
 
 pub use entries::word;
-use least::Found;
 
 // A vector's size in entries, the target where entry 0 begins, and its granularity: an entry stands for 2^scale targets.
 #[derive(Clone, Copy)]
@@ -22,19 +21,15 @@ pub struct Settings {
 
 // The entry that applies to a target.
 #[tactic(auto, unfolding(crate::specs::Vectors::entry_of))]
-pub fn entry(g: Settings, t: u64) -> Found
+pub fn entry(g: Settings, t: u64) -> Option<u64>
     requires { g.scale < 64 }
     ensures { result ≡ entry_of g t }
 {
     if t < g.start {
-        return Found::Nothing;
+        return None;
     }
     let i = (t - g.start) >> g.scale;
-    if i < g.size {
-        Found::At(i)
-    } else {
-        Found::Nothing
-    }
+    if i < g.size { Some(i) } else { None }
 }
 
 // Whether entry i is set; an entry past the vector's bytes is clear.
@@ -52,15 +47,15 @@ pub fn hit(v: &[u8], g: Settings, t: u64) -> bool
     ensures { result ≡ hits v.now g t }
 {
     match entry(g, t) {
-        Found::At(i) => is_set(v, i),
-        Found::Nothing => false,
+        Some(i) => is_set(v, i),
+        None => false,
     }
 }
 
 // The next entry from `from` on, below the size, that is set, or, where that is wanted, clear. Bytes that hold none such are
 // stepped over.
 #[tactic(auto, using(least::proofs::Laws::at_is, least::proofs::Laws::none_empty, least::proofs::Laws::none_is, least::proofs::Laws::none_join, least::proofs::Laws::none_part, crate::proofs::Digits::sees_least, crate::proofs::Digits::sees_none))]
-pub fn next_entry(v: &[u8], want: bool, from: u64, size: u64) -> Found
+pub fn next_entry(v: &[u8], want: bool, from: u64, size: u64) -> Option<u64>
     ensures { result ≡ first_in (entry_is v.now want) from size }
 {
     let mut i = from;
@@ -69,12 +64,12 @@ pub fn next_entry(v: &[u8], want: bool, from: u64, size: u64) -> Found
         if seen.wanted != 0 {
             let found = i + u64::trailing_zeros(seen.wanted) as u64;
             if size <= found {
-                return Found::Nothing;
+                return None;
             }
-            return Found::At(found);
+            return Some(found);
         }
         if size <= seen.last {
-            return Found::Nothing;
+            return None;
         }
         i = seen.last + 1;
     }

@@ -4,14 +4,14 @@ use mathlib.Core.Bool.{Bool, true}
 use mathlib.Core.Path.{◌≡◌, refl}
 use Rattle.ids.specs.declared.Space.{Space}
 use Rattle.ids.specs.declared.Target.{Target}
-use Rattle.least.specs.declared.Found.TheVariants.{At}
 use Rattle.least.proofs.Laws.{is_at}
 use Rattle.chassis.specs.declared.Verdict.{Verdict}
 use Rattle.chassis.specs.declared.Verdict.TheVariants.{Clear, Shared, Stray, Lost, Taken}
 use Rattle.chassis.specs.Chassis.{target_in, space_size}
 use Rattle.chassis.specs.Check.{test_in, least_target, or_next}
+use Rattle.std.specs.Prelude.{Some}
 
-module _ (test : Target → Bool) (space : Space) {t : ℕ} (e : At t ≡ least_target test space) where
+module _ (test : Target → Bool) (space : Space) {t : ℕ} (e : Some t ≡ least_target test space) where
   pub target_below : t < space_size space
   target_below = (is_at (test_in test space) 0 (space_size space) e).below
 

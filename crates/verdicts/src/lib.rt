@@ -12,7 +12,6 @@ use chassis::{Fault, Row, Verdict};
 use claims::hold_of;
 use culprits::{PortFault, first_pair, lowest, lowest_port};
 use ids::{PortNo, Rid, Space, Target};
-use least::Found;
 use overlaps::least_fault;
 
 // The target of a space by its number.
@@ -58,8 +57,8 @@ fn fault_in<'a>(s: &'a [u8], patch: &'a [u8], n: u8, fault: Fault, space: Space)
     ensures { result ≡ at_least (chassis_over s.now patch.now) fault space (least_target (faulty fault (chassis_over s.now patch.now)) space) }
 {
     match least_fault(s, patch, n, fault, space) {
-        Found::At(t) => verdict_at(s, patch, n, fault, target_in(space, t)),
-        Found::Nothing => Verdict::Clear,
+        Some(t) => verdict_at(s, patch, n, fault, target_in(space, t)),
+        None => Verdict::Clear,
     }
 }
 
@@ -70,8 +69,8 @@ fn own_id_lost<'a>(s: &'a [u8], patch: &'a [u8], n: u8) -> Verdict
     ensures { result ≡ lost_at (first_in (own_id_lost (chassis_over s.now patch.now)) 0 (count_of s.now)) }
 {
     match lowest(s, patch, n, PortFault::Lost) {
-        Found::At(p) => Verdict::Lost(PortNo(p as u8)),
-        Found::Nothing => Verdict::Clear,
+        Some(p) => Verdict::Lost(PortNo(p as u8)),
+        None => Verdict::Clear,
     }
 }
 

@@ -1,8 +1,6 @@
 -- The words of Settled, from where they are defined.
-pub use Rattle.std.specs.Prelude.{ℕ, ◌+◌, ◌*◌, ◌^◌, Bool, true, false, not, ◌&&◌, List, [], ◌∷◌, eqb}
+pub use Rattle.std.specs.Prelude.{ℕ, ◌+◌, ◌*◌, ◌^◌, Bool, true, false, not, ◌&&◌, List, [], ◌∷◌, eqb, Option, Some, None, Result, Ok, Err}
 pub use Rattle.ids.specs.declared.Target.TheVariants.{Id}
-pub use Rattle.least.specs.declared.Found.{Found}
-pub use Rattle.least.specs.declared.Found.TheVariants.{At, Nothing}
 pub use Rattle.vectors.specs.Vectors.{entry_of, hits}
 pub use Rattle.chassis.specs.declared.Conversion.{Conversion}
 pub use Rattle.chassis.specs.declared.Conversion.TheVariants.{NotClaimed, Type0, Type1, Unsupported}
@@ -13,7 +11,6 @@ pub use Rattle.registers.specs.declared.Mechanism.TheVariants.{Rid, Low, High}
 pub use Rattle.registers.specs.Vectors.{settings_of}
 pub use Rattle.claims.specs.Decoders.{memory_claims, low_claims}
 pub use Rattle.claims.specs.Claims.{chassis_of}
-pub use Rattle.judge.specs.declared.ConvertAnswer.{ConvertAnswer}
-pub use Rattle.judge.specs.declared.ConvertAnswer.TheVariants.{Refused, Converted}
 pub use Rattle.judge.specs.Converting.{convert_answer}
 pub use Rattle.cases.specs.Chain.{chain_with}
+pub use Rattle.picture.specs.declared.Refusal.{Refusal}

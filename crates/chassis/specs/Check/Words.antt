@@ -1,13 +1,11 @@
 -- The words of Check, from where they are defined.
-pub use Rattle.std.specs.Prelude.{ℕ, Bool, true, false, not, cond, ◌&&◌, List, [], ◌∷◌, eqb}
+pub use Rattle.std.specs.Prelude.{ℕ, Bool, true, false, not, cond, ◌&&◌, List, [], ◌∷◌, eqb, Option, Some, None}
 pub use Rattle.ids.specs.declared.PortNo.{PortNo}
 pub use Rattle.ids.specs.declared.Space.{Space}
 pub use Rattle.ids.specs.declared.Space.TheVariants.{Ids, Addresses}
 pub use Rattle.ids.specs.declared.Target.{Target}
 pub use Rattle.ids.specs.declared.Target.TheVariants.{Id, Addr}
 pub use Rattle.ids.specs.Ids.{port_no, no_port}
-pub use Rattle.least.specs.declared.Found.{Found}
-pub use Rattle.least.specs.declared.Found.TheVariants.{At, Nothing}
 pub use Rattle.least.specs.Least.{first_in}
 pub use Rattle.chassis.specs.declared.Conversion.{Conversion}
 pub use Rattle.chassis.specs.declared.Conversion.TheVariants.{NotClaimed, Type0, Type1, Unsupported}

@@ -1,16 +1,14 @@
 -- The words of Reading, from where they are defined.
-pub use Rattle.std.specs.Prelude.{ℕ, Bool, cond, List, length}
-pub use Rattle.least.specs.declared.Found.{Found}
-pub use Rattle.least.specs.declared.Found.TheVariants.{At, Nothing}
+pub use Rattle.std.specs.Prelude.{ℕ, Bool, cond, List, length, Option, Some, None, Result, Ok, Err}
 pub use Rattle.least.specs.Least.{first_in, or_else}
 pub use Rattle.ids.specs.Ids.{port_no}
 pub use Rattle.chassis.specs.Tree.{tree_broken, chain_too_long}
 pub use Rattle.registers.specs.Record.{port_at}
 pub use Rattle.registers.specs.Rules.{settings_wrong, start_wrong}
 pub use Rattle.trees.specs.Trees.{count_of, tree_of}
-pub use Rattle.picture.specs.declared.Reading.{Reading}
-pub use Rattle.picture.specs.declared.Reading.TheVariants.{Read, Refused}
 pub use Rattle.picture.specs.declared.Rule.{Rule}
 pub use Rattle.picture.specs.declared.Rule.TheVariants.{Tree, Chain, Settings, Start}
 pub use Rattle.picture.specs.Header.{header_of, length_wrong, edition_wrong, count_wrong, total_wrong, offset_wrong}
 pub use Rattle.picture.specs.Layout.{place_wrong, end_wrong}
+pub use Rattle.picture.specs.declared.Header.{Header}
+pub use Rattle.picture.specs.declared.Refusal.{Refusal}

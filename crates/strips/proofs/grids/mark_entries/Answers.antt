@@ -6,18 +6,18 @@ use Rattle.strips.proofs.grids.mark_entries.Goals as goal
 
 pub units_of-requires : goal.units_of-requires
 units_of-requires c =
-    let a = is_at _ _ _ (sym c.in-At.is ∙ c.next_entry.ensures) in
+    let a = is_at _ _ _ (sym c.in-Some.is ∙ c.next_entry.ensures) in
     (c.requires.small.0, omega (arith, c.end_entry-end.ensures, a.below))
 
 pub overflow_add-i : goal.overflow_add-i
-overflow_add-i c = let a = is_at _ _ _ (sym c.in-At.is ∙ c.next_entry.ensures) in omega (arith, a.below)
+overflow_add-i c = let a = is_at _ _ _ (sym c.in-Some.is ∙ c.next_entry.ensures) in omega (arith, a.below)
 
 pub loop-e-smaller : goal.loop-e-smaller
-loop-e-smaller c = let a = is_at _ _ _ (sym c.in-At.is ∙ c.next_entry.ensures) in omega (arith, a.from, a.below)
+loop-e-smaller c = let a = is_at _ _ _ (sym c.in-Some.is ∙ c.next_entry.ensures) in omega (arith, a.from, a.below)
 
 pub loop-e-preserved : goal.loop-e-preserved
 loop-e-preserved c =
-    let a = is_at _ _ _ (sym c.in-At.is ∙ c.next_entry.ensures) in (
+    let a = is_at _ _ _ (sym c.in-Some.is ∙ c.next_entry.ensures) in (
       omega (arith, c.end_entry-end.ensures, a.below),
       c.mark_range.auto.strip ∙ c.loop-e.invariant.1,
       marks_also c.loop-e.invariant.2 (rw c.units_of.ensures at c.mark_range.ensures)
