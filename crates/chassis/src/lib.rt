@@ -50,7 +50,7 @@ pub struct Hold {
 }
 
 // What a port makes of a configuration request that it is about to be crossed by.
-#[derive(Clone, Copy)]
+#[derive(Clone, Copy, PartialEq, Eq)]
 pub enum Conversion {
     NotClaimed,
     Type0,

@@ -5,15 +5,15 @@ ghost use Rattle.std.specs.Prelude.{◌≡◌};
 ghost use Rattle.ids.specs.Ids.{bus_of, device_of, function_of, unit_of};
 
 // The number of a port in its picture.
-#[derive(Clone, Copy)]
+#[derive(Clone, Copy, PartialEq, Eq, PartialOrd, Ord)]
 pub struct PortNo(pub u8);
 
 // A Routing ID: bus, device and Function.
-#[derive(Clone, Copy)]
+#[derive(Clone, Copy, PartialEq, Eq, PartialOrd, Ord)]
 pub struct Rid(pub u16);
 
 // Eight IDs that differ in their Function alone: an ID divided by 8.
-#[derive(Clone, Copy)]
+#[derive(Clone, Copy, PartialEq, Eq, PartialOrd, Ord)]
 pub struct Unit(pub u16);
 
 // What a packet is sent to.
