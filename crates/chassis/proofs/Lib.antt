@@ -17,3 +17,4 @@ pub mod NamedHold
 pub mod AlikeTrees
 pub mod Alike
 pub mod AlikeWalks
+pub mod Through

@@ -5,3 +5,4 @@ pub mod Check
 pub mod Table
 pub mod OneEnd
 pub mod Findings
+pub mod Looking

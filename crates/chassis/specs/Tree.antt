@@ -1,5 +1,8 @@
 -- How the ports of a chassis hang together, and the rules that their kinds and parents keep.
-use Rattle.std.specs.Prelude.{ℕ, zero, suc, Bool, false, not, cond, ◌&&◌, ◌||◌, eqb, ltb}
+use Rattle.std.specs.Prelude.{ℕ, zero, suc, Bool, false, not, cond, ◌&&◌, ◌||◌, eqb, ltb, Result, Ok, Err}
+use Rattle.chassis.specs.declared.kinds.Kind.{Kind}
+use Rattle.chassis.specs.declared.kinds.Kind.TheVariants.{Root, Upstream, Downstream}
+use Rattle.chassis.specs.declared.kinds.UnknownKind.{UnknownKind}
 
 pub record Tree : Type 0 where
   pub count : ℕ
@@ -15,6 +18,12 @@ upstream = 1
 
 abbrev pub downstream : ℕ
 downstream = 2
+
+abbrev pub kind_of : ℕ → Result Kind UnknownKind
+kind_of number =
+    cond (eqb number root_port) (Ok Root)
+    (cond (eqb number upstream) (Ok Upstream)
+    (cond (eqb number downstream) (Ok Downstream) (Err (record { 0 = number }))))
 
 -- 01, "The walk": "A place is the root, or what lies below a port". A place is a number: 255 the root, q what lies below port q
 abbrev pub root : ℕ

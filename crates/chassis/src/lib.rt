@@ -3,16 +3,13 @@
 
 mod findings;
 mod joined;
+mod kinds;
+mod looking;
 
 pub use findings::finding_of;
 use ids::{PortNo, Rid, Space, Target};
-
-// The kinds of ports, by the numbers that a picture has for them.
-pub const ROOT_PORT: u8 = 0;
-
-pub const UPSTREAM: u8 = 1;
-
-pub const DOWNSTREAM: u8 = 2;
+pub use kinds::{Kind, UnknownKind};
+pub use looking::{any, lowest};
 
 // What is sent: a packet routed by its target, or a configuration request for an ID.
 #[derive(Clone, Copy)]

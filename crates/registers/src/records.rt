@@ -1,10 +1,12 @@
 // Where a port's record starts, and some fields of it by a read each: those of the tree, the vectors' sizes and start, the enables.
 ghost use Rattle.std.specs.Prelude.{◌≡◌, ◌<◌, ◌≤◌, ◌^◌};
+ghost use Rattle.chassis.specs.Tree.{kind_of};
 ghost use Rattle.registers.specs.declared.Mechanism.{Mechanism};
 ghost use Rattle.registers.specs.Record.{edition_of, record_bytes, record_at, record_in, port_at};
 ghost use Rattle.registers.specs.Vectors.{vector_bytes};
 
 use crate::{Bridge, Fpb};
+use chassis::{Kind, UnknownKind};
 use ids::{PortNo, Rid};
 
 // How many bytes come before the records.
@@ -43,12 +45,12 @@ fn record_in(s: &[u8], p: PortNo) -> usize
     record_at(edition_of(s), p.0 as usize)
 }
 
-// 0 root port, 1 switch upstream, 2 switch downstream.
+// The kind of port p.
 #[tactic(auto, unfolding(crate::specs::Record::port_at))]
-pub fn kind_at(s: &[u8], p: PortNo) -> u8
-    ensures { result ≡ (port_at s.now p.0).kind }
+pub fn kind_at(s: &[u8], p: PortNo) -> Result<Kind, UnknownKind>
+    ensures { result ≡ kind_of (port_at s.now p.0).kind }
 {
-    lent::u8_at(s, record_in(s, p))
+    Kind::try_from(lent::u8_at(s, record_in(s, p)))
 }
 
 // The port above, 255 for a root port.

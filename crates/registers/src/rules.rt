@@ -4,7 +4,7 @@ ghost use Rattle.registers.specs.Rules.{size_reserved, granularity_allowed, mech
 
 use crate::fields::{enabled, granularity_code, settings, size_code, supported};
 use crate::{Bridge, Fpb, Mechanism, Port};
-use chassis::UPSTREAM;
+use chassis::Kind;
 
 // A size code that the table of settings does not have.
 #[tactic(auto, unfolding(crate::specs::Rules::size_reserved))]
@@ -75,7 +75,7 @@ pub fn settings_wrong(p: Port) -> bool
 pub fn with_ari(p: Port) -> bool
     ensures { result ≡ with_ari p }
 {
-    (p.kind != UPSTREAM) & ((p.device_control_2 >> 5) % 2 == 1)
+    (Kind::try_from(p.kind) != Ok(Kind::Upstream)) & ((p.device_control_2 >> 5) % 2 == 1)
 }
 
 // P2P Request Redirect, bit 2 of ACS Control.
