@@ -12,11 +12,15 @@ use Rattle.least.specs.Least.{first_in}
 use Rattle.trees.specs.Trees.{count_of}
 use Rattle.picture.proofs.WhatReads.{Reads, reads, count_read, count_few}
 use Rattle.picture.specs.declared.Header.{Header}
-use Rattle.picture.specs.declared.Rule.TheVariants.{Tree, Chain, Settings, Start}
+use Rattle.picture.specs.declared.refusals.Rule.TheVariants.{Tree, Chain, Settings, Start}
 use Rattle.picture.specs.Header.{header_of, length_wrong, edition_wrong, count_wrong, total_wrong, offset_wrong}
 use Rattle.picture.specs.Reading.{breaks, misplaced_in, refused_if, refused_at, ports_reading, reading, number_of}
 use Rattle.std.specs.Prelude.{Option, Some, None, Result, Ok}
-use Rattle.picture.specs.declared.Refusal.{Refusal}
+use Rattle.picture.specs.declared.refusals.Refusal.{Refusal}
+use Rattle.picture.specs.declared.refusals.Refusal.TheVariants.{Length, Edition, Count, Total, Offset, Breaks, Misplaced}
+use Rattle.picture.specs.Refusals.{refusal_number}
+use Rattle.ids.specs.declared.PortNo.{PortNo}
+use Rattle.ids.specs.Ids.{port_no}
 
 -- a picture that reads, with the header that is read
 pub record Read-as (first : List ℕ) : Type 0 where
@@ -27,53 +31,53 @@ pub record Read-as (first : List ℕ) : Type 0 where
 abbrev Sound : Result Header Refusal → Type 0
 Sound got = number_of got ≡ 0 → (h : Header) × (got ≡ Ok h)
 
-past_if : (wrong : Bool) (number port : ℕ) (rest : Result Header Refusal) → 0 < number → Sound rest → Sound (refused_if wrong number port rest)
-past_if true number port rest more sound e = absurd (omega (arith, more, e))
-past_if false number port rest more sound e = sound e
+past_if : (wrong : Bool) (refusal : Refusal) (rest : Result Header Refusal) → 0 < refusal_number refusal → Sound rest → Sound (refused_if wrong refusal rest)
+past_if true refusal rest more sound e = absurd (omega (arith, more, e))
+past_if false refusal rest more sound e = sound e
 
-past_at : (found : Option ℕ) (number : ℕ) (rest : Result Header Refusal) → 0 < number → Sound rest → Sound (refused_at found number rest)
-past_at (Some p) number rest more sound e = absurd (omega (arith, more, e))
-past_at None number rest more sound e = sound e
+past_at : (found : Option ℕ) (refusal : PortNo → Refusal) (rest : Result Header Refusal) → ((p : PortNo) → 0 < refusal_number (refusal p)) → Sound rest → Sound (refused_at found refusal rest)
+past_at (Some p) refusal rest more sound e = absurd (omega (arith, more (port_no p), e))
+past_at None refusal rest more sound e = sound e
 
 sound : (first : List ℕ) → Sound (reading first)
 unfolding reading ports_reading
 sound first =
-    past_if (length_wrong first) 1 255 _ (omega arith)
-    (past_if (edition_wrong (header_of first)) 2 255 _ (omega arith)
-    (past_if (count_wrong (header_of first)) 3 255 _ (omega arith)
-    (past_if (total_wrong (length first) (header_of first)) 4 255 _ (omega arith)
-    (past_if (offset_wrong (length first) (header_of first)) 5 255 _ (omega arith)
-    (past_at (first_in (breaks Tree first) 0 (count_of first)) 6 _ (omega arith)
-    (past_at (first_in (breaks Chain first) 0 (count_of first)) 7 _ (omega arith)
-    (past_at (first_in (breaks Settings first) 0 (count_of first)) 8 _ (omega arith)
-    (past_at (first_in (breaks Start first) 0 (count_of first)) 9 _ (omega arith)
-    (past_at (misplaced_in first) 10 _ (omega arith) (λ e. (header_of first, refl)))))))))))
+    past_if (length_wrong first) Length _ (omega arith)
+    (past_if (edition_wrong (header_of first)) Edition _ (omega arith)
+    (past_if (count_wrong (header_of first)) Count _ (omega arith)
+    (past_if (total_wrong (length first) (header_of first)) Total _ (omega arith)
+    (past_if (offset_wrong (length first) (header_of first)) Offset _ (omega arith)
+    (past_at (first_in (breaks Tree first) 0 (count_of first)) (Breaks Tree) _ (λ p. omega arith)
+    (past_at (first_in (breaks Chain first) 0 (count_of first)) (Breaks Chain) _ (λ p. omega arith)
+    (past_at (first_in (breaks Settings first) 0 (count_of first)) (Breaks Settings) _ (λ p. omega arith)
+    (past_at (first_in (breaks Start first) 0 (count_of first)) (Breaks Start) _ (λ p. omega arith)
+    (past_at (misplaced_in first) Misplaced _ (λ p. omega arith) (λ e. (header_of first, refl)))))))))))
 
 -- a number of the table has few bits
 abbrev Few : Result Header Refusal → Type 0
 Few got = number_of got < 2 ^ 32
 
-few_if : (wrong : Bool) (number port : ℕ) (rest : Result Header Refusal) → number < 2 ^ 32 → Few rest → Few (refused_if wrong number port rest)
-few_if true number port rest few others = few
-few_if false number port rest few others = others
+few_if : (wrong : Bool) (refusal : Refusal) (rest : Result Header Refusal) → refusal_number refusal < 2 ^ 32 → Few rest → Few (refused_if wrong refusal rest)
+few_if true refusal rest few others = few
+few_if false refusal rest few others = others
 
-few_at : (found : Option ℕ) (number : ℕ) (rest : Result Header Refusal) → number < 2 ^ 32 → Few rest → Few (refused_at found number rest)
-few_at (Some p) number rest few others = few
-few_at None number rest few others = others
+few_at : (found : Option ℕ) (refusal : PortNo → Refusal) (rest : Result Header Refusal) → ((p : PortNo) → refusal_number (refusal p) < 2 ^ 32) → Few rest → Few (refused_at found refusal rest)
+few_at (Some p) refusal rest few others = few (port_no p)
+few_at None refusal rest few others = others
 
 pub reading_small : (first : List ℕ) → Few (reading first)
 unfolding reading ports_reading
 reading_small first =
-    few_if (length_wrong first) 1 255 _ (omega arith)
-    (few_if (edition_wrong (header_of first)) 2 255 _ (omega arith)
-    (few_if (count_wrong (header_of first)) 3 255 _ (omega arith)
-    (few_if (total_wrong (length first) (header_of first)) 4 255 _ (omega arith)
-    (few_if (offset_wrong (length first) (header_of first)) 5 255 _ (omega arith)
-    (few_at (first_in (breaks Tree first) 0 (count_of first)) 6 _ (omega arith)
-    (few_at (first_in (breaks Chain first) 0 (count_of first)) 7 _ (omega arith)
-    (few_at (first_in (breaks Settings first) 0 (count_of first)) 8 _ (omega arith)
-    (few_at (first_in (breaks Start first) 0 (count_of first)) 9 _ (omega arith)
-    (few_at (misplaced_in first) 10 _ (omega arith) (omega arith))))))))))
+    few_if (length_wrong first) Length _ (omega arith)
+    (few_if (edition_wrong (header_of first)) Edition _ (omega arith)
+    (few_if (count_wrong (header_of first)) Count _ (omega arith)
+    (few_if (total_wrong (length first) (header_of first)) Total _ (omega arith)
+    (few_if (offset_wrong (length first) (header_of first)) Offset _ (omega arith)
+    (few_at (first_in (breaks Tree first) 0 (count_of first)) (Breaks Tree) _ (λ p. omega arith)
+    (few_at (first_in (breaks Chain first) 0 (count_of first)) (Breaks Chain) _ (λ p. omega arith)
+    (few_at (first_in (breaks Settings first) 0 (count_of first)) (Breaks Settings) _ (λ p. omega arith)
+    (few_at (first_in (breaks Start first) 0 (count_of first)) (Breaks Start) _ (λ p. omega arith)
+    (few_at (misplaced_in first) Misplaced _ (λ p. omega arith) (omega arith))))))))))
 
 pub reads_zero : (first : List ℕ) → number_of (reading first) ≡ 0 → Read-as first
 reads_zero first e = let got = sound first e in record { header = got.0; all = reads first got.0 got.1 }

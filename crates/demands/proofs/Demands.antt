@@ -40,7 +40,8 @@ use Rattle.judge.specs.Checking.{check_of, check_answer, check_finding, check_nu
 use Rattle.judge.specs.Asking.{target_asked}
 use Rattle.judge.specs.Claiming.{claim_asked_wrongly, claim_of, claim_answer}
 use Rattle.judge.specs.Converting.{convert_asked_wrongly, convert_of, convert_answer}
-use Rattle.judge.specs.Refusals.{number16, refusal_finding}
+use Rattle.judge.specs.Refusals.{refusal_finding}
+use Rattle.picture.specs.declared.refusals.Refusal.TheVariants.{AskedWrongly}
 use Rattle.judge.specs.Walking.{packet_of, asked_wrongly, AskedGives, ReadGives, WalkGives}
 use Rattle.judge.specs.Trying.{trial_check, TriedGives, TrialGives}
 use Rattle.judge.proofs.Trials.{trial_only}
@@ -57,7 +58,7 @@ use Rattle.fiswalend.proofs.WalkCalls.{leaves_only}
 use Rattle.demands.specs.Demands.{Demand1, OneBuffer, Demand1Buffer, Names, WalksIn, Demand2, Demand3, Overlap, FailsExactly, OverlapExactly}
 use Rattle.demands.proofs.Numbers.{reading_in_table, check_numbered, claim_numbered, convert_numbered, walk_numbered, never_zero}
 use Rattle.std.specs.Prelude.{Result, Ok, Err}
-use Rattle.picture.specs.declared.Refusal.{Refusal}
+use Rattle.picture.specs.declared.refusals.Refusal.{Refusal}
 
 pub demand_1 : (s : List ℕ) → Demand1 s
 demand_1 s =
@@ -97,7 +98,7 @@ module _ (s : List ℕ) (kind start target : ℕ) where
     where
       asked : (h : Header) → reading s ≡ Ok h → (wrong : Bool) → asked_wrongly (tree_of s) kind start target ≡ wrong
           → (a : Result Walked Refusal) × AskedGives wrong (chassis_of s) kind start target a
-      asked h is true wrong = (Err number16, refl)
+      asked h is true wrong = (Err AskedWrongly, refl)
       asked h is false right =
           let w = walk_exists (chassis_of s) (packet_of kind target) (sane_read s h is) (starts_at (chassis_of s) (packet_of kind target) start) (within_start (chassis_of s) (sane_read s h is) kind start target right (packet_of kind target) refl) in
           let walked : Walked = record { path = path_of w.path; end = w.end } in

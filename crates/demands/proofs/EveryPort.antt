@@ -37,7 +37,7 @@ use Rattle.demands.proofs.Demands.{passed_clear}
 use Rattle.demands.proofs.Numbers.{tried_never_zero}
 use Rattle.demands.proofs.Trials.{trial_2}
 use Rattle.std.specs.Prelude.{Result, Ok, Err}
-use Rattle.picture.specs.declared.Refusal.{Refusal}
+use Rattle.picture.specs.declared.refusals.Refusal.{Refusal}
 
 -- an own ID has 16 bits
 own_small : (s : List ℕ) → Bytes s → (p : ℕ) → (port_at s p).own_id.0 < 2 ^ 16

@@ -30,7 +30,7 @@ use Rattle.demands.specs.Demands.{Names, Trial1, Trial2, Trial3, TrialOverlap}
 use Rattle.demands.proofs.Demands.{walks_in, tried, demand_2, demand_3, fails_exactly, judged, judged_only}
 use Rattle.demands.proofs.Numbers.{tried_never_zero, tried_in_table, trial_check_numbered, trial_walk_numbered, trial_part_numbered}
 use Rattle.std.specs.Prelude.{Result, Ok, Err}
-use Rattle.picture.specs.declared.Refusal.{Refusal}
+use Rattle.picture.specs.declared.refusals.Refusal.{Refusal}
 use Rattle.routes.specs.declared.Walked.{Walked}
 
 pub trial_1 : (s patch : List ℕ) → Trial1 s patch

@@ -6,7 +6,7 @@
 mod Words
 use Words.*
 use Rattle.routes.specs.declared.Walked.{Walked}
-use Rattle.picture.specs.declared.Refusal.{Refusal}
+use Rattle.picture.specs.declared.refusals.Refusal.{Refusal}
 use Rattle.std.specs.Prelude.{Result, Ok}
 
 -- one of a list of numbers

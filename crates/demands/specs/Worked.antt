@@ -12,7 +12,7 @@ use Rattle.paths.specs.Paths.{path_of}
 use Rattle.ids.specs.declared.PortNo.{PortNo}
 use Rattle.judge.specs.Walking.{WalkGives}
 use Rattle.routes.specs.declared.Walked.{Walked}
-use Rattle.picture.specs.declared.Refusal.{Refusal}
+use Rattle.picture.specs.declared.refusals.Refusal.{Refusal}
 use Rattle.std.specs.Prelude.{Result}
 
 unfoldable pub zeros : ℕ → List ℕ

@@ -25,7 +25,7 @@ use Rattle.patches.specs.Patched.{patched}
 use Rattle.patches.specs.Reading.{reading_with}
 use Rattle.chassis.specs.declared.End.{End}
 use Rattle.chassis.specs.declared.End.TheVariants.{Device, Function, Host, Unsupported, Doubled}
-use Rattle.picture.specs.declared.Refusal.{Refusal}
+use Rattle.picture.specs.declared.refusals.Refusal.{Refusal}
 use Rattle.judge.specs.Refusals.{refusal_finding}
 use Rattle.fiswalend.specs.Walked.{end_head, walk_bytes}
 use Rattle.fiswalend.specs.Calls.{too_short, WalkLeaves, WalkCall, TrialWalkCall}
@@ -63,14 +63,10 @@ pub fits_its_byte : (a : Result Walked Refusal) → IfOk a (λ w. w.path.count �
 fits_its_byte (Err r) few = tt
 fits_its_byte (Ok w) few = omega arith
 
-refusal_number : (r : Refusal) → (refusal_finding r).number ≡ r.number
-unfolding refusal_finding
-refusal_number r = refl
-
 -- the first byte is the number
 pub first_byte : (a : Result Walked Refusal) → get_or (walk_bytes a) 0 0 ≡ outcome_number a
-unfolding walk_bytes answer_bytes head_bytes
-first_byte (Err r) = finding-number (refusal_finding r) ∙ refusal_number r
+unfolding walk_bytes answer_bytes head_bytes refusal_finding
+first_byte (Err r) = finding-number (refusal_finding r)
 first_byte (Ok w) = ended w.end
   where
     ended : (e : End) → (end_head e w.path.count).number ≡ 0

@@ -11,7 +11,7 @@ use Rattle.fiswalend.specs.Codes.{claim_writes, convert_writes}
 use Rattle.fiswalend.specs.Found.{finding_bytes}
 use Rattle.fiswalend.specs.Walked.{walk_bytes}
 use Rattle.chassis.specs.declared.Verdict.{Verdict}
-use Rattle.picture.specs.declared.Refusal.{Refusal}
+use Rattle.picture.specs.declared.refusals.Refusal.{Refusal}
 use Rattle.chassis.specs.declared.Hold.{Hold}
 use Rattle.chassis.specs.declared.Conversion.{Conversion}
 use Rattle.routes.specs.declared.Walked.{Walked}

@@ -5,7 +5,7 @@ use Rattle.chassis.specs.declared.Conversion.{Conversion}
 use Rattle.chassis.specs.declared.Conversion.TheVariants.{NotClaimed, Type0, Type1, Unsupported}
 use Rattle.chassis.specs.declared.Decoders.{Decoders}
 use Rattle.chassis.specs.declared.Hold.{Hold}
-use Rattle.picture.specs.declared.Refusal.{Refusal}
+use Rattle.picture.specs.declared.refusals.Refusal.{Refusal}
 
 -- the decoders by their bits, from bit 0 on: bus, rid, mem, pref, low, high, vga
 abbrev pub bit_of : Bool → ℕ → ℕ

@@ -8,7 +8,7 @@ use Rattle.answers.specs.declared.Head.{Head}
 use Rattle.answers.specs.Answers.{answer_bytes, path_places}
 use Rattle.judge.specs.Refusals.{refusal_finding}
 use Rattle.fiswalend.specs.Found.{finding_bytes}
-use Rattle.picture.specs.declared.Refusal.{Refusal}
+use Rattle.picture.specs.declared.refusals.Refusal.{Refusal}
 use Rattle.routes.specs.declared.Walked.{Walked}
 
 -- "end (0 none, 1 device, 2 Function, 3 host, 4 Unsupported Request, 5 doubled), port, second port, crossings, Function number"; "Ends

@@ -12,7 +12,7 @@ use Rattle.chassis.proofs.AlikeTrees.{device_alike}
 use Rattle.chassis.proofs.AlikeWalks.{walk_alike, starts_alike}
 use Rattle.chassis.proofs.Tree.{Sane}
 use Rattle.picture.specs.declared.Header.{Header}
-use Rattle.picture.specs.declared.Refusal.{Refusal}
+use Rattle.picture.specs.declared.refusals.Refusal.{Refusal}
 use Rattle.picture.specs.Reading.{reading}
 use Rattle.picture.proofs.Laws.{count_of_lem}
 use Rattle.picture.proofs.WhatReads.{reads_sane}

@@ -20,7 +20,7 @@ use Rattle.chassis.proofs.Tree.{Sane}
 use Rattle.chassis.proofs.Walks.{walk_one}
 use Rattle.paths.specs.Paths.{path_of}
 use Rattle.picture.specs.declared.Header.{Header}
-use Rattle.picture.specs.declared.Refusal.{Refusal}
+use Rattle.picture.specs.declared.refusals.Refusal.{Refusal}
 use Rattle.picture.specs.Reading.{reading}
 use Rattle.trees.specs.Trees.{tree_of}
 use Rattle.claims.specs.Claims.{chassis_of}
@@ -28,7 +28,7 @@ use Rattle.claims.specs.Over.{chassis_over}
 use Rattle.claims.proofs.Over.{unpatched}
 use Rattle.routes.specs.declared.Walked.{Walked}
 use Rattle.routes.specs.Routes.{Arrives}
-use Rattle.judge.specs.Refusals.{number16}
+use Rattle.picture.specs.declared.refusals.Refusal.TheVariants.{AskedWrongly}
 use Rattle.judge.specs.Asking.{id_too_large}
 use Rattle.judge.specs.Walking.{packet_of, is_start, asked_wrongly, AskedGives, ReadGives, WalkGives}
 use Rattle.std.specs.Prelude.{Result, Ok, Err}
@@ -95,7 +95,7 @@ module _ (c : Chassis) (kind start target : ℕ) (answer : Result Walked Refusal
   abbrev Gives : Bool → Type 0
   Gives wrong = AskedGives wrong c kind start target answer
 
-  pub gives_16 : asked_wrongly c.tree kind start target ≡ true → answer ≡ Err number16 → Gives (asked_wrongly c.tree kind start target)
+  pub gives_16 : asked_wrongly c.tree kind start target ≡ true → answer ≡ Err AskedWrongly → Gives (asked_wrongly c.tree kind start target)
   gives_16 asked e = subst Gives (sym asked) e
 
   pub gives_end : {packet : Packet} {from : Whereabouts} (w : Walked) → asked_wrongly c.tree kind start target ≡ false

@@ -7,7 +7,7 @@ use Rattle.picture.specs.Reading.{reading}
 use Rattle.claims.specs.Claims.{chassis_of}
 use Rattle.judge.specs.Refusals.{refusal_finding}
 use Rattle.picture.specs.declared.Header.{Header}
-use Rattle.picture.specs.declared.Refusal.{Refusal}
+use Rattle.picture.specs.declared.refusals.Refusal.{Refusal}
 use Rattle.chassis.specs.declared.Verdict.{Verdict}
 
 unfoldable pub check_of : Result Header Refusal → List ℕ → Result Verdict Refusal

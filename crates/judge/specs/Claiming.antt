@@ -5,10 +5,11 @@ use Rattle.chassis.specs.Chassis.{hold_of}
 use Rattle.picture.specs.Reading.{reading}
 use Rattle.claims.specs.Claims.{chassis_of}
 use Rattle.judge.specs.Asking.{target_asked, id_too_large}
-use Rattle.judge.specs.Refusals.{number16}
+use Rattle.picture.specs.declared.refusals.Refusal.TheVariants.{AskedWrongly}
 use Rattle.picture.specs.declared.Header.{Header}
-use Rattle.picture.specs.declared.Refusal.{Refusal}
+use Rattle.picture.specs.declared.refusals.Refusal.{Refusal}
 use Rattle.chassis.specs.declared.Hold.{Hold}
+use Rattle.picture.specs.Refusals.{refusal_number}
 
 -- 16: "a port beyond the count"; by docs/DECISIONS.md also a kind over 1 and an ID over FFFFh
 unfoldable pub claim_asked_wrongly : ℕ → ℕ → ℕ → ℕ → Bool
@@ -17,12 +18,12 @@ claim_asked_wrongly count port kind target = leb count port || ltb 1 kind || id_
 unfoldable pub claim_of : Result Header Refusal → List ℕ → ℕ → ℕ → ℕ → Result Hold Refusal
 claim_of (Err r) s port kind target = Err r
 claim_of (Ok h) s port kind target =
-    cond (claim_asked_wrongly h.count port kind target) (Err number16) (Ok (hold_of (chassis_of s) (target_asked kind target) port))
+    cond (claim_asked_wrongly h.count port kind target) (Err AskedWrongly) (Ok (hold_of (chassis_of s) (target_asked kind target) port))
 
 abbrev pub claim_answer : List ℕ → ℕ → ℕ → ℕ → Result Hold Refusal
 claim_answer s port kind target = claim_of (reading s) s port kind target
 
 -- the paper's number of an answer
 abbrev pub claim_number : Result Hold Refusal → ℕ
-claim_number (Err r) = r.number
+claim_number (Err r) = refusal_number r
 claim_number (Ok answer) = 0

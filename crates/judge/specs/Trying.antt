@@ -6,13 +6,14 @@ use Rattle.patches.specs.Parts.{place_of}
 use Rattle.patches.specs.Patched.{patched}
 use Rattle.patches.specs.Reading.{reading_with}
 use Rattle.judge.specs.Checking.{check_answer}
-use Rattle.judge.specs.Refusals.{number16}
+use Rattle.picture.specs.declared.refusals.Refusal.TheVariants.{AskedWrongly}
 use Rattle.judge.specs.Walking.{WalkGives}
 use Rattle.picture.specs.declared.Header.{Header}
-use Rattle.picture.specs.declared.Refusal.{Refusal}
+use Rattle.picture.specs.declared.refusals.Refusal.{Refusal}
 use Rattle.chassis.specs.declared.Verdict.{Verdict}
 use Rattle.patches.specs.declared.Place.{Place}
 use Rattle.routes.specs.declared.Walked.{Walked}
+use Rattle.picture.specs.Refusals.{refusal_number}
 
 -- the check of a picture with the vectors put in, where picture and patch read
 unfoldable pub tried_check : Result Header Refusal → List ℕ → Result Verdict Refusal
@@ -33,12 +34,12 @@ TrialGives s patch kind start target answer = TriedGives (reading_with s patch) 
 -- where a vector lies, "in the picture or in the patch"; 16 for a port beyond the count
 unfoldable pub tried_part : Result Header Refusal → List ℕ → List ℕ → ℕ → Mechanism → Result Place Refusal
 tried_part (Err r) s patch port m = Err r
-tried_part (Ok h) s patch port m = cond (ltb port h.count) (Ok (place_of s patch port m)) (Err number16)
+tried_part (Ok h) s patch port m = cond (ltb port h.count) (Ok (place_of s patch port m)) (Err AskedWrongly)
 
 abbrev pub trial_part : List ℕ → List ℕ → ℕ → Mechanism → Result Place Refusal
 trial_part s patch port m = tried_part (reading_with s patch) s patch port m
 
 -- the paper's number of an answer
 abbrev pub part_number : Result Place Refusal → ℕ
-part_number (Err r) = r.number
+part_number (Err r) = refusal_number r
 part_number (Ok place) = 0

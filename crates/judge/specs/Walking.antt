@@ -2,7 +2,7 @@
 mod Words
 use Words.*
 use Rattle.routes.specs.declared.Walked.{Walked}
-use Rattle.picture.specs.declared.Refusal.{Refusal}
+use Rattle.picture.specs.declared.refusals.Refusal.{Refusal}
 use Rattle.std.specs.Prelude.{Result, Ok, Err}
 
 -- "packet kind 0 ID, 1 address, 2 configuration request"
@@ -18,7 +18,7 @@ asked_wrongly tree kind start target = ltb 2 kind || id_too_large kind target ||
 
 -- what the call gives: the refusal, or the end and the path to which the rules lead
 abbrev pub AskedGives : Bool → Chassis → ℕ → ℕ → ℕ → Result Walked Refusal → Type 0
-AskedGives true c kind start target answer = answer ≡ Err number16
+AskedGives true c kind start target answer = answer ≡ Err AskedWrongly
 AskedGives false c kind start target answer =
     (w : Walked) × Arrives c (packet_of kind target) (starts_at c (packet_of kind target) start) w × (answer ≡ Ok w)
 

@@ -1,6 +1,6 @@
 // The refusals that the calls share: those of the reading, and number 16; and what is said of a refusal.
 ghost use Rattle.std.specs.Prelude.{◌≡◌};
-ghost use Rattle.picture.specs.declared.Refusal.{Refusal};
+ghost use Rattle.picture.specs.declared.refusals.Refusal.{Refusal};
 ghost use Rattle.judge.specs.Refusals.{number16, refusal_finding};
 
 use chassis::{Finding, Named};

@@ -26,7 +26,7 @@ use Rattle.picture.proofs.WhatReads.{Reads, reads, past_if}
 use Rattle.patches.specs.Patch.{ports_in, port_in, offset_at, running_in, header_misfits, not_rising, port_misplaced, ports_misplaced, offset_misplaced, vectors_misplaced}
 use Rattle.patches.specs.Reading.{patch_reading, reading_with}
 use Rattle.std.specs.Prelude.{Result, Ok, Err}
-use Rattle.picture.specs.declared.Refusal.{Refusal}
+use Rattle.picture.specs.declared.refusals.Refusal.{Refusal}
 
 pub record Accepted (s patch : List ℕ) (h : Header) : Type 0 where
   pub picture_reads : Reads s h

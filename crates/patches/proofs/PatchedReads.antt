@@ -20,8 +20,8 @@ use Rattle.registers.proofs.Laws.{record_mono, record_behind}
 use Rattle.registers.specs.Vectors.{vector_bytes}
 use Rattle.trees.specs.Trees.{count_of, tree_of}
 use Rattle.picture.specs.declared.Header.{Header}
-use Rattle.picture.specs.declared.Rule.{Rule}
-use Rattle.picture.specs.declared.Rule.TheVariants.{Tree, Chain, Settings, Start}
+use Rattle.picture.specs.declared.refusals.Rule.{Rule}
+use Rattle.picture.specs.declared.refusals.Rule.TheVariants.{Tree, Chain, Settings, Start}
 use Rattle.picture.specs.Header.{header_of, length_wrong}
 use Rattle.picture.specs.Layout.{all_bytes, running_offset, place_wrong, end_wrong, offset_in, vector_of}
 use Rattle.picture.specs.Reading.{breaks, reading}

@@ -3,13 +3,12 @@
 use Prim.Native.Nat.{ℕ, ◌<◌, ◌≤◌}
 use mathlib.Core.Bool.{Bool, true, false, cond, ◌||◌}
 use mathlib.Core.List.{List}
-use mathlib.Core.Path.{◌≡◌, refl, ap}
+use mathlib.Core.Path.{◌≡◌, refl, ap, ◌∙◌}
 use Prim.Native.Nat.{zero-le}
-use native.Mathlib.Omega.{arith}
-use borrow.Author.Tests.{eq-eqb, ne_eqb, lt-ltb, ltb-false}
+use borrow.Author.Tests.{eq-eqb, ne_eqb, ltb-false}
 use lib.ListN.{length}
 use lib.Dec.{eqb, ltb}
-use Rattle.least.proofs.Laws.{impossible, NoneIn, at_is, none_is, is_at}
+use Rattle.least.proofs.Laws.{impossible, NoneIn, at_is, none_is}
 use Rattle.least.specs.Least.{first_in, or_else}
 use Rattle.registers.specs.declared.Fpb.{Fpb}
 use Rattle.registers.specs.declared.Mechanism.{Mechanism}
@@ -20,11 +19,13 @@ use Rattle.trees.specs.Trees.{count_of}
 use Rattle.picture.specs.declared.Header.{Header}
 use Rattle.picture.specs.Header.{header_of, count_wrong}
 use Rattle.picture.specs.Layout.{all_bytes, running_offset, place_wrong, end_wrong, offset_in}
-use Rattle.picture.specs.declared.Refusal.{Refusal}
-use Rattle.picture.specs.declared.Rule.{Rule}
-use Rattle.picture.specs.declared.Rule.TheVariants.{Tree, Chain, Settings, Start}
-use Rattle.picture.specs.Onward.{is_port, then_at}
+use Rattle.picture.specs.declared.refusals.Refusal.{Refusal}
+use Rattle.picture.specs.Onward.{unless}
 use Rattle.picture.specs.Reading.{breaks, misplaced_in, refused_at, ports_reading}
+use Rattle.picture.specs.declared.refusals.Rule.{Rule}
+use Rattle.picture.specs.declared.refusals.Rule.TheVariants.{Tree, Chain, Settings, Start}
+use Rattle.picture.specs.declared.refusals.Refusal.TheVariants.{Breaks, Misplaced}
+use Rattle.ids.specs.declared.PortNo.{PortNo}
 use Rattle.std.specs.Prelude.{Option, Some, None, Result, Ok, Err}
 
 -- whether a port's vectors start at the running offset
@@ -82,46 +83,29 @@ count_small h right = go (eqb h.count 0) (ltb 64 h.count) refl right
     go false true e r = impossible (cc)
     go false false e r = ltb-false 64 h.count e
 
--- numbers looked for one after the other are a chain of refusals
-pub chained : (h : Header) (a b c d e : Option ℕ)
-    → then_at (then_at (then_at (then_at (then_at (Ok h) a 6) b 7) c 8) d 9) e 10
-    ≡ refused_at a 6 (refused_at b 7 (refused_at c 8 (refused_at d 9 (refused_at e 10 (Ok h)))))
-chained h (Some p) b c d e = refl
-chained h None (Some p) c d e = refl
-chained h None None (Some p) d e = refl
-chained h None None None (Some p) e = refl
-chained h None None None None (Some p) = refl
-chained h None None None None None = refl
+-- numbers are looked for one after the other: a refusal ends the reading, and else it goes on
+abbrev pub goes_on : Result (Unit {0}) Refusal → Result Header Refusal → Result Header Refusal
+goes_on (Ok _) rest = rest
+goes_on (Err r) rest = Err r
 
-pub ports_chained : (s : List ℕ) (n : ℕ) (h : Header) (tree chain settings start : Result Header Refusal) → h ≡ header_of s → n ≡ count_of s
-    → tree ≡ then_at (Ok h) (first_in (breaks Tree s) 0 n) 6
-    → chain ≡ then_at tree (first_in (breaks Chain s) 0 n) 7
-    → settings ≡ then_at chain (first_in (breaks Settings s) 0 n) 8
-    → start ≡ then_at settings (first_in (breaks Start s) 0 n) 9
-    → then_at start (misplaced_in s) 10 ≡ ports_reading s
-unfolding ports_reading
-ports_chained s n h tree chain settings start header count six seven eight nine =
-    rw (nine, eight, seven, six, header, count) (chained (header_of s) (broken Tree) (broken Chain) (broken Settings) (broken Start) (misplaced_in s))
+looked : (found : Option ℕ) (refusal : PortNo → Refusal) (rest : Result Header Refusal) → refused_at found refusal rest ≡ goes_on (unless found refusal) rest
+looked (Some p) refusal rest = refl
+looked None refusal rest = refl
+
+abbrev pub kept : List ℕ → ℕ → Rule → Result (Unit {0}) Refusal
+kept s n rule = unless (first_in (breaks rule s) 0 n) (Breaks rule)
+
+pub as_looked : (s : List ℕ) (h : Header) (n : ℕ) → h ≡ header_of s → n ≡ h.count
+    → ports_reading s
+    ≡ goes_on (kept s n Tree) (goes_on (kept s n Chain) (goes_on (kept s n Settings) (goes_on (kept s n Start) (goes_on (unless (misplaced_in s) Misplaced) (Ok h)))))
+unfolding ports_reading header_of
+as_looked s h n header count =
+    rw (count, count_of_lem s h header, header)
+    (looked (broken Tree) (Breaks Tree) _
+    ∙ ap (goes_on (kept s (count_of s) Tree)) (looked (broken Chain) (Breaks Chain) _
+    ∙ ap (goes_on (kept s (count_of s) Chain)) (looked (broken Settings) (Breaks Settings) _
+    ∙ ap (goes_on (kept s (count_of s) Settings)) (looked (broken Start) (Breaks Start) _
+    ∙ ap (goes_on (kept s (count_of s) Start)) (looked (misplaced_in s) Misplaced (Ok (header_of s)))))))
   where
     broken : Rule → Option ℕ
     broken rule = first_in (breaks rule s) 0 (count_of s)
-
--- a refusal stays, whatever the next number finds
-pub refused_stays : (got : Result Header Refusal) (r : Refusal) (found : Option ℕ) (number : ℕ) → got ≡ Err r → got ≡ then_at got found number
-refused_stays got r found number e = rw e
-
--- a port found is below the count, and the end's number is 255
-pub port_found : (test : ℕ → Bool) (n : ℕ) (found : Option ℕ) → n < 256 → found ≡ first_in test 0 n → is_port found ≡ true
-port_found test n (Some p) small e =
-    let found = is_at test 0 n e in
-    lt-ltb p 256 (omega (arith, found.below))
-port_found test n None small e = refl
-
-pub place_found : (s : List ℕ) (found : Option ℕ) → count_of s < 256 → found ≡ misplaced_in s → is_port found ≡ true
-unfolding misplaced_in
-place_found s found small e = go (first_in (place_wrong s) 0 (count_of s)) (end_wrong s) refl e
-  where
-    go : (f : Option ℕ) (wrong : Bool) → f ≡ first_in (place_wrong s) 0 (count_of s) → found ≡ or_else f (cond wrong (Some 255) None) → is_port found ≡ true
-    go (Some p) wrong is e = rw e (port_found (place_wrong s) (count_of s) (Some p) small is)
-    go None true is e = rw e
-    go None false is e = rw e

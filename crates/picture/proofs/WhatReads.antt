@@ -20,13 +20,15 @@ use Rattle.registers.specs.Vectors.{vector_bytes}
 use Rattle.trees.specs.Trees.{count_of, tree_of}
 use Rattle.picture.proofs.Laws.{count_of_lem, count_small}
 use Rattle.picture.specs.declared.Header.{Header}
-use Rattle.picture.specs.declared.Rule.{Rule}
-use Rattle.picture.specs.declared.Rule.TheVariants.{Tree, Chain, Settings, Start}
+use Rattle.picture.specs.declared.refusals.Rule.{Rule}
+use Rattle.picture.specs.declared.refusals.Rule.TheVariants.{Tree, Chain, Settings, Start}
 use Rattle.picture.specs.Header.{header_of, length_wrong, edition_wrong, count_wrong, total_wrong, offset_wrong}
 use Rattle.picture.specs.Layout.{running_offset, place_wrong, end_wrong, offset_in, vector_of}
 use Rattle.picture.specs.Reading.{breaks, misplaced_in, refused_if, refused_at, ports_reading, reading}
 use Rattle.std.specs.Prelude.{Option, Some, None, Result, Ok}
-use Rattle.picture.specs.declared.Refusal.{Refusal}
+use Rattle.picture.specs.declared.refusals.Refusal.{Refusal}
+use Rattle.picture.specs.declared.refusals.Refusal.TheVariants.{Length, Edition, Count, Total, Offset, Breaks, Misplaced}
+use Rattle.ids.specs.declared.PortNo.{PortNo}
 
 pub record Reads (s : List ℕ) (h : Header) : Type 0 where
   pub header : h ≡ header_of s
@@ -40,13 +42,13 @@ pub record Reads (s : List ℕ) (h : Header) : Type 0 where
   pub end_right : end_wrong s ≡ false
 
 -- one refusal passed on the way to a header
-pub past_if : (wrong : Bool) (number port : ℕ) (rest : Result Header Refusal) {h : Header} → refused_if wrong number port rest ≡ Ok h → (wrong ≡ false) × (rest ≡ Ok h)
-past_if true number port rest e = impossible (cc)
-past_if false number port rest e = (refl, e)
+pub past_if : (wrong : Bool) (refusal : Refusal) (rest : Result Header Refusal) {h : Header} → refused_if wrong refusal rest ≡ Ok h → (wrong ≡ false) × (rest ≡ Ok h)
+past_if true refusal rest e = impossible (cc)
+past_if false refusal rest e = (refl, e)
 
-past_at : (found : Option ℕ) (number : ℕ) (rest : Result Header Refusal) {h : Header} → refused_at found number rest ≡ Ok h → (None ≡ found) × (rest ≡ Ok h)
-past_at (Some p) number rest e = impossible (cc)
-past_at None number rest e = (refl, e)
+past_at : (found : Option ℕ) (refusal : PortNo → Refusal) (rest : Result Header Refusal) {h : Header} → refused_at found refusal rest ≡ Ok h → (None ≡ found) × (rest ≡ Ok h)
+past_at (Some p) refusal rest e = impossible (cc)
+past_at None refusal rest e = (refl, e)
 
 past_end : (found : Option ℕ) (wrong : Bool) → None ≡ or_else found (cond wrong (Some 255) None) → (None ≡ found) × (wrong ≡ false)
 past_end (Some p) wrong e = impossible (cc)
@@ -57,16 +59,16 @@ past_end None false e = (refl, refl)
 pub reads : (s : List ℕ) (h : Header) → reading s ≡ Ok h → Reads s h
 unfolding reading ports_reading misplaced_in
 reads s h e =
-    let one = past_if (length_wrong s) 1 255 _ e in
-    let two = past_if (edition_wrong (header_of s)) 2 255 _ one.1 in
-    let three = past_if (count_wrong (header_of s)) 3 255 _ two.1 in
-    let four = past_if (total_wrong (length s) (header_of s)) 4 255 _ three.1 in
-    let five = past_if (offset_wrong (length s) (header_of s)) 5 255 _ four.1 in
-    let six = past_at (first_in (breaks Tree s) 0 (count_of s)) 6 _ five.1 in
-    let seven = past_at (first_in (breaks Chain s) 0 (count_of s)) 7 _ six.1 in
-    let eight = past_at (first_in (breaks Settings s) 0 (count_of s)) 8 _ seven.1 in
-    let nine = past_at (first_in (breaks Start s) 0 (count_of s)) 9 _ eight.1 in
-    let ten = past_at (misplaced_in s) 10 (Ok (header_of s)) nine.1 in
+    let one = past_if (length_wrong s) Length _ e in
+    let two = past_if (edition_wrong (header_of s)) Edition _ one.1 in
+    let three = past_if (count_wrong (header_of s)) Count _ two.1 in
+    let four = past_if (total_wrong (length s) (header_of s)) Total _ three.1 in
+    let five = past_if (offset_wrong (length s) (header_of s)) Offset _ four.1 in
+    let six = past_at (first_in (breaks Tree s) 0 (count_of s)) (Breaks Tree) _ five.1 in
+    let seven = past_at (first_in (breaks Chain s) 0 (count_of s)) (Breaks Chain) _ six.1 in
+    let eight = past_at (first_in (breaks Settings s) 0 (count_of s)) (Breaks Settings) _ seven.1 in
+    let nine = past_at (first_in (breaks Start s) 0 (count_of s)) (Breaks Start) _ eight.1 in
+    let ten = past_at (misplaced_in s) Misplaced (Ok (header_of s)) nine.1 in
     let end = past_end (first_in (place_wrong s) 0 (count_of s)) (end_wrong s) ten.0 in
     record {
       header = let r = ten.1 in cc;

@@ -1,4 +1,5 @@
 pub mod Header
 pub mod Layout
-pub mod Reading
+pub mod Refusals
 pub mod Onward
+pub mod Reading

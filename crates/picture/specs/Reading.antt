@@ -9,17 +9,13 @@ breaks Chain s p = chain_too_long (tree_of s) p
 breaks Settings s p = settings_wrong (port_at s p)
 breaks Start s p = start_wrong (port_at s p)
 
--- a refusal by its number and the port that it names; 255 where it names none
-abbrev pub refused : ℕ → ℕ → Result Header Refusal
-refused number port = Err (record { number = number; port = port_no port })
-
-abbrev pub refused_if : Bool → ℕ → ℕ → Result Header Refusal → Result Header Refusal
-refused_if wrong number port rest = cond wrong (refused number port) rest
+abbrev pub refused_if : Bool → Refusal → Result Header Refusal → Result Header Refusal
+refused_if wrong refusal rest = cond wrong (Err refusal) rest
 
 -- a refusal that names the port found
-abbrev pub refused_at : Option ℕ → ℕ → Result Header Refusal → Result Header Refusal
-refused_at (Some p) number rest = refused number p
-refused_at None number rest = rest
+abbrev pub refused_at : Option ℕ → (PortNo → Refusal) → Result Header Refusal → Result Header Refusal
+refused_at (Some p) refusal rest = Err (refusal (port_no p))
+refused_at None refusal rest = rest
 
 -- number 10 and the port that it names: "port, 255 for the end"
 unfoldable pub misplaced_in : List ℕ → Option ℕ
@@ -28,24 +24,24 @@ misplaced_in s = or_else (first_in (place_wrong s) 0 (count_of s)) (cond (end_wr
 -- numbers 6 to 10
 unfoldable pub ports_reading : List ℕ → Result Header Refusal
 ports_reading s =
-    refused_at (first_in (breaks Tree s) 0 (count_of s)) 6
-    (refused_at (first_in (breaks Chain s) 0 (count_of s)) 7
-    (refused_at (first_in (breaks Settings s) 0 (count_of s)) 8
-    (refused_at (first_in (breaks Start s) 0 (count_of s)) 9
-    (refused_at (misplaced_in s) 10
+    refused_at (first_in (breaks Tree s) 0 (count_of s)) (Breaks Tree)
+    (refused_at (first_in (breaks Chain s) 0 (count_of s)) (Breaks Chain)
+    (refused_at (first_in (breaks Settings s) 0 (count_of s)) (Breaks Settings)
+    (refused_at (first_in (breaks Start s) 0 (count_of s)) (Breaks Start)
+    (refused_at (misplaced_in s) Misplaced
     (Ok (header_of s))))))
 
 -- numbers 1 to 5, then those of the ports
 unfoldable pub reading : List ℕ → Result Header Refusal
 reading s =
-    refused_if (length_wrong s) 1 255
-    (refused_if (edition_wrong (header_of s)) 2 255
-    (refused_if (count_wrong (header_of s)) 3 255
-    (refused_if (total_wrong (length s) (header_of s)) 4 255
-    (refused_if (offset_wrong (length s) (header_of s)) 5 255
+    refused_if (length_wrong s) Length
+    (refused_if (edition_wrong (header_of s)) Edition
+    (refused_if (count_wrong (header_of s)) Count
+    (refused_if (total_wrong (length s) (header_of s)) Total
+    (refused_if (offset_wrong (length s) (header_of s)) Offset
     (ports_reading s)))))
 
 -- the number of a reading's answer, 0 where it reads
 abbrev pub number_of : Result Header Refusal → ℕ
 number_of (Ok h) = 0
-number_of (Err r) = r.number
+number_of (Err r) = refusal_number r

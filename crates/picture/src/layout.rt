@@ -1,11 +1,12 @@
 // Where the vectors of each port lie (number 10), and each vector as a part of the picture.
 ghost use Rattle.std.specs.Prelude.{◌≡◌, ◌≤◌};
-ghost use Rattle.trees.specs.Trees.{count_of};
+ghost use Rattle.chassis.specs.Looking.{number_in};
 ghost use Rattle.picture.specs.Layout.{all_bytes, offset_in, vector_of};
 ghost use Rattle.picture.specs.Reading.{misplaced_in};
 
 use ids::PortNo;
 use registers::{Fpb, Mechanism, edition_of, record_at, sizes_of, vector_bytes, vectors_start};
+use trees::Picture;
 
 // The bytes of all vectors of a port.
 pub fn all_bytes(f: Fpb) -> u64
@@ -19,21 +20,19 @@ pub fn all_bytes(f: Fpb) -> u64
 
 // The lowest port whose vectors start elsewhere than at the running offset, or 255 if they do not end at the total.
 #[tactic(auto, using(least::proofs::Laws::NoneIn, crate::proofs::Laws::all_bytes_same, crate::proofs::Laws::misplaced_end, crate::proofs::Laws::misplaced_here, crate::proofs::Laws::misplaced_nowhere, least::proofs::Laws::none_empty, least::proofs::Laws::none_more, crate::proofs::Laws::place_kept, crate::proofs::Laws::place_wrong_lem), unfolding(crate::specs::Layout::running_offset))]
-pub fn misplaced(s: &[u8], n: u8) -> Option<u64>
-    requires { n ≡ count_of s.now }
-    ensures { result ≡ misplaced_in s.now }
+pub fn misplaced(picture: &Picture) -> Option<PortNo>
+    ensures { number_in result ≡ misplaced_in picture.now.bytes.now }
 {
-    let mut offset: u64 = record_at(edition_of(s), n as usize) as u64;
-    let mut p: u8 = 0;
-    while p < n {
+    let s = picture.bytes;
+    let mut offset: u64 = record_at(edition_of(s), picture.count as usize) as u64;
+    for p in 0..picture.count {
         if vectors_start(s, PortNo(p)) as u64 != offset {
-            return Some(p as u64);
+            return Some(PortNo(p));
         }
         offset += all_bytes(sizes_of(s, PortNo(p)));
-        p += 1;
     }
     if offset != s.len() as u64 {
-        return Some(PortNo::NONE.0 as u64);
+        return Some(PortNo::NONE);
     }
     None
 }

@@ -3,16 +3,20 @@
 
 mod headers;
 mod layout;
+mod refusals;
 
-ghost use Rattle.std.specs.Prelude.{true, ◌≡◌, ◌≤◌};
+ghost use Rattle.std.specs.Prelude.{◌≡◌, ◌≤◌};
 ghost use Rattle.least.specs.Least.{first_in};
 ghost use Rattle.picture.specs.Header.{header_of};
-ghost use Rattle.picture.specs.Onward.{is_port, then_at};
-ghost use Rattle.picture.specs.Reading.{breaks, refused, ports_reading, reading};
+ghost use Rattle.picture.specs.Onward.{unless};
+ghost use Rattle.picture.specs.Reading.{breaks, ports_reading, reading};
+ghost use Rattle.picture.specs.declared.refusals.Refusal.TheVariants.{Breaks};
 
 use ids::PortNo;
 pub use layout::{all_bytes, offset_in, vector};
+pub use refusals::{Refusal, Rule};
 use registers::port_at;
+use trees::Picture;
 
 #[derive(Clone, Copy)]
 pub struct Header {
@@ -23,25 +27,9 @@ pub struct Header {
     pub vectors_at: u32,
 }
 
-// A number of the table, and the port that it names, or 255.
-#[derive(Clone, Copy)]
-pub struct Refusal {
-    pub number: u8,
-    pub port: PortNo,
-}
-
-// The rules that each port keeps by itself: numbers 6 to 9.
-#[derive(Clone, Copy)]
-pub enum Rule {
-    Tree,
-    Chain,
-    Settings,
-    Start,
-}
-
 // Whether a port breaks a rule.
 #[tactic(auto, unfolding(crate::specs::Reading::breaks))]
-fn breaks_rule(s: &[u8], p: PortNo, rule: Rule) -> bool
+fn breaks(s: &[u8], rule: Rule, p: PortNo) -> bool
     ensures { result ≡ breaks rule s.now p.0 }
 {
     match rule {
@@ -52,75 +40,32 @@ fn breaks_rule(s: &[u8], p: PortNo, rule: Rule) -> bool
     }
 }
 
-// The lowest of n ports that breaks a rule.
-#[tactic(auto, using(least::proofs::Laws::NoneIn, least::proofs::Laws::at_is, least::proofs::Laws::none_empty, least::proofs::Laws::none_is, least::proofs::Laws::none_more, least::proofs::Laws::none_part))]
-fn lowest_culprit(s: &[u8], n: u8, rule: Rule) -> Option<u64>
-    ensures { result ≡ first_in (breaks rule s.now) 0 n }
+// Refuses the lowest of n ports that breaks a rule.
+fn keep(s: &[u8], n: u8, rule: Rule) -> Result<(), Refusal>
+    ensures { result ≡ unless (first_in (breaks rule s.now) 0 n) (Breaks rule) }
 {
-    let mut p: u8 = 0;
-    while p < n {
-        if breaks_rule(s, PortNo(p), rule) {
-            return Some(p as u64);
-        }
-        p += 1;
+    match chassis::lowest(n, |p| breaks(s, rule, p)) {
+        Some(p) => Err(Refusal::Breaks(rule, p)),
+        None => Ok(()),
     }
-    None
-}
-
-// The answer for a picture that does not read.
-fn refuse(number: u8, port: PortNo) -> Result<Header, Refusal>
-    ensures { result ≡ refused number port.0 }
-{
-    Err(Refusal { number, port })
-}
-
-// The reading so far, or the refusal with the port that the next number has found.
-fn after(got: Result<Header, Refusal>, found: Option<u64>, number: u8) -> Result<Header, Refusal>
-    requires { is_port found ≡ true }
-    ensures { result ≡ then_at got found number }
-{
-    let Ok(_) = got else {
-        return got;
-    };
-    let Some(p) = found else {
-        return got;
-    };
-    refuse(number, PortNo(p as u8))
-}
-
-// The same, of a rule that is looked for only where no lower number has refused the picture.
-#[tactic(auto, using(crate::proofs::Laws::port_found))]
-fn after_rule(
-    s: &[u8],
-    n: u8,
-    got: Result<Header, Refusal>,
-    rule: Rule,
-    number: u8,
-) -> Result<Header, Refusal>
-    ensures { result ≡ then_at got (first_in (breaks rule s.now) 0 n) number }
-{
-    let Ok(_) = got else {
-        return got;
-    };
-    after(got, lowest_culprit(s, n, rule), number)
 }
 
 // Numbers 6 to 10, looked for over all ports one number after the other.
-#[tactic(auto, using(crate::proofs::Laws::count_of_lem, crate::proofs::Laws::place_found, crate::proofs::Laws::ports_chained, crate::proofs::Laws::refused_stays))]
 fn read_ports(s: &[u8], h: Header) -> Result<Header, Refusal>
     requires h_value { h ≡ header_of s.now }
     requires count_bound { h.count ≤ 64 }
     ensures { result ≡ ports_reading s.now }
 {
     let n = h.count as u8;
-    let tree = after_rule(s, n, Ok(h), Rule::Tree, 6);
-    let chain = after_rule(s, n, tree, Rule::Chain, 7);
-    let settings = after_rule(s, n, chain, Rule::Settings, 8);
-    let start = after_rule(s, n, settings, Rule::Start, 9);
-    let Ok(_) = start else {
-        return start;
-    };
-    after(start, layout::misplaced(s, n), 10)
+    keep(s, n, Rule::Tree)?;
+    keep(s, n, Rule::Chain)?;
+    keep(s, n, Rule::Settings)?;
+    keep(s, n, Rule::Start)?;
+    let picture = Picture { bytes: s, count: n };
+    match layout::misplaced(&picture) {
+        Some(p) => Err(Refusal::Misplaced(p)),
+        None => Ok(h),
+    }
 }
 
 // Reads a picture: numbers 1 to 10, or its header.
@@ -129,20 +74,20 @@ pub fn read(s: &[u8]) -> Result<Header, Refusal>
     ensures { result ≡ reading s.now }
 {
     if headers::length_wrong(s) {
-        return refuse(1, PortNo::NONE);
+        return Err(Refusal::Length);
     }
     let h = headers::header_at(s);
     if headers::edition_wrong(h) {
-        return refuse(2, PortNo::NONE);
+        return Err(Refusal::Edition);
     }
     if headers::count_wrong(h) {
-        return refuse(3, PortNo::NONE);
+        return Err(Refusal::Count);
     }
     if headers::total_wrong(s.len(), h) {
-        return refuse(4, PortNo::NONE);
+        return Err(Refusal::Total);
     }
     if headers::offset_wrong(s.len(), h) {
-        return refuse(5, PortNo::NONE);
+        return Err(Refusal::Offset);
     }
     read_ports(s, h)
 }

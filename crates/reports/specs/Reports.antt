@@ -7,7 +7,7 @@ use Rattle.judge.specs.Refusals.{refusal_finding}
 use Rattle.judge.specs.Trying.{trial_check}
 use Rattle.texts.specs.Lines.{refused_line, report_lines, walk_lines, holder_line}
 use Rattle.chassis.specs.declared.Hold.{Hold}
-use Rattle.picture.specs.declared.Refusal.{Refusal}
+use Rattle.picture.specs.declared.refusals.Refusal.{Refusal}
 use Rattle.routes.specs.declared.Walked.{Walked}
 
 -- the count of ports and what the check says, with this byte between two lines

@@ -13,4 +13,4 @@ pub use Rattle.claims.specs.Decoders.{memory_claims, low_claims}
 pub use Rattle.claims.specs.Claims.{chassis_of}
 pub use Rattle.judge.specs.Converting.{convert_answer}
 pub use Rattle.cases.specs.Chain.{chain_with}
-pub use Rattle.picture.specs.declared.Refusal.{Refusal}
+pub use Rattle.picture.specs.declared.refusals.Refusal.{Refusal}

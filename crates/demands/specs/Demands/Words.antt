@@ -29,4 +29,4 @@ pub use Rattle.judge.specs.Ends.{outcome_number}
 pub use Rattle.judge.specs.Trying.{trial_check, TrialGives, trial_part, part_number}
 pub use Rattle.judge.specs.Walking.{packet_of, WalkGives}
 pub use Rattle.fiswalend.specs.Calls.{CheckCall, WalkCall, TrialWalkCall}
-pub use Rattle.picture.specs.declared.Refusal.{Refusal}
+pub use Rattle.picture.specs.declared.refusals.Refusal.{Refusal}
