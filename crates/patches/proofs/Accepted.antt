@@ -27,6 +27,7 @@ use Rattle.patches.specs.Patch.{ports_in, port_in, offset_at, running_in, header
 use Rattle.patches.specs.Reading.{patch_reading, reading_with}
 use Rattle.std.specs.Prelude.{Result, Ok, Err}
 use Rattle.picture.specs.declared.refusals.Refusal.{Refusal}
+use Rattle.picture.specs.declared.refusals.Refusal.TheVariants.{PatchHeader, PatchPorts, PatchVectors}
 
 pub record Accepted (s patch : List ℕ) (h : Header) : Type 0 where
   pub picture_reads : Reads s h
@@ -42,9 +43,9 @@ past_patch : (got : Result Header Refusal) (s patch : List ℕ) {h : Header} →
 unfolding patch_reading
 past_patch (Err r) s patch e = impossible (cc)
 past_patch (Ok g) s patch {h} e =
-    let thirty = past_if (header_misfits patch) 30 255 _ e in
-    let one = past_if (ports_misplaced g.count patch) 31 255 _ thirty.1 in
-    let two = past_if (vectors_misplaced s patch) 32 255 _ one.1 in
+    let thirty = past_if (header_misfits patch) PatchHeader _ e in
+    let one = past_if (ports_misplaced g.count patch) PatchPorts _ thirty.1 in
+    let two = past_if (vectors_misplaced s patch) PatchVectors _ one.1 in
     let same : g ≡ h = let r = two.1 in cc in
     (two.1, rw (← same) one.0, two.0)
 

@@ -1,6 +1,6 @@
 -- How a port's row is sought: by halves, since the ports of a patch rise; seven halvings are enough for 64 rows. In a patch that is
 -- refused they may miss a row; no public call goes on with one.
-use Rattle.std.specs.Prelude.{ℕ, zero, suc, ◌+◌, ◌/◌, ◌^◌, Bool, true, cond, ◌&&◌, List, ltb, Option, Some, None}
+use Rattle.std.specs.Prelude.{ℕ, zero, suc, ◌+◌, ◌/◌, cond, ◌&&◌, List, ltb, Option, Some, None}
 use Rattle.registers.specs.declared.Mechanism.{Mechanism}
 use Rattle.patches.specs.declared.rows.Rows.{Rows}
 use Rattle.patches.specs.declared.parts.Place.{Place}
@@ -25,11 +25,6 @@ halved_to patch p (suc k) = halved patch p (halved_to patch p k)
 -- the row at which they end, if it is the port's
 abbrev pub row_if : List ℕ → ℕ → ℕ → Option ℕ
 row_if patch p i = cond (ltb i (ports_in patch) && is_row_of patch p i) (Some i) None
-
--- a number that a row can have
-abbrev pub is_row : Option ℕ → Bool
-is_row (Some i) = ltb i (2 ^ 32)
-is_row None = true
 
 unfoldable pub row_sought : List ℕ → ℕ → Option ℕ
 row_sought patch p = row_if patch p (halved_to patch p 7).lo

@@ -1,5 +1,5 @@
 // The part handed out: a port's vector lies in the patch where the port stands in it, and in the picture where it does not.
-ghost use Rattle.std.specs.Prelude.{[], ◌≡◌};
+ghost use Rattle.std.specs.Prelude.{◌≡◌};
 ghost use Rattle.picture.specs.declared.Header.{Header};
 ghost use Rattle.patches.specs.Halves.{place_over, vector_over};
 ghost use Rattle.patches.specs.Parts.{place_of, part_at};
@@ -35,7 +35,7 @@ pub fn lies_at(s: &[u8], patch: &[u8], p: PortNo, m: Mechanism) -> Place
     match row_of(patch, p) {
         Some(i) => Place {
             source: Source::Patch,
-            at: offset_at(patch, i as u32) as u64 + offset_in(f, m),
+            at: offset_at(patch, i) as u64 + offset_in(f, m),
             bytes: vector_bytes(f, m),
         },
         None => Place {
@@ -70,11 +70,4 @@ pub fn vector<'a>(s: &'a [u8], patch: &'a [u8], p: PortNo, m: Mechanism) -> &'a 
         return picture::vector(s, p, m);
     }
     sought(s, patch, p, m)
-}
-
-// The patch of a call that has none.
-pub fn none(s: &[u8]) -> &[u8]
-    ensures { result.now ≡ [] }
-{
-    &s[..0]
 }

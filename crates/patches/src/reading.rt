@@ -1,6 +1,5 @@
 // Reading a patch, after the picture that it is laid over: numbers 30 to 32, each looked for over the whole patch before the next.
 ghost use Rattle.std.specs.Prelude.{false, ◌≡◌, ◌≤◌};
-ghost use Rattle.picture.specs.Reading.{refused};
 ghost use Rattle.patches.specs.Patch.{header_misfits, port_misplaced, ports_misplaced, vectors_misplaced};
 ghost use Rattle.patches.specs.Reading.{patch_reading, reading_with};
 
@@ -36,13 +35,10 @@ pub fn port_misplaced(patch: &[u8], n: u8, i: u32) -> bool
 fn ports_misplaced(patch: &[u8], n: u8) -> bool
     ensures { result ≡ ports_misplaced n patch.now }
 {
-    let count = ports_in(patch);
-    let mut i: u32 = 0;
-    while i < count {
+    for i in 0..ports_in(patch) {
         if port_misplaced(patch, n, i) {
             return true;
         }
-        i += 1;
     }
     false
 }
@@ -55,26 +51,14 @@ fn vectors_misplaced(s: &[u8], patch: &[u8], n: u8) -> bool
 {
     let count = ports_in(patch);
     let mut offset: u64 = row_at(count);
-    let mut i: u32 = 0;
-    while i < count {
+    for i in 0..count {
         if offset_at(patch, i) as u64 != offset {
             return true;
         }
         let f = port_at(s, PortNo(port_in(patch, i) as u8)).fpb;
         offset += all_bytes(f);
-        i += 1;
     }
     offset != patch.len() as u64
-}
-
-// The answer for a patch that does not read; no port is named.
-fn refuse(number: u8) -> Result<Header, Refusal>
-    ensures { result ≡ refused number 255 }
-{
-    Err(Refusal {
-        number,
-        port: PortNo::NONE,
-    })
 }
 
 // Numbers 30 to 32 of a patch over a picture that reads, or the picture's header.
@@ -84,14 +68,14 @@ fn read_patch(s: &[u8], patch: &[u8], h: Header) -> Result<Header, Refusal>
     ensures { result ≡ patch_reading (Ok h) s.now patch.now }
 {
     if header_misfits(patch) {
-        return refuse(30);
+        return Err(Refusal::PatchHeader);
     }
     let n = h.count as u8;
     if ports_misplaced(patch, n) {
-        return refuse(31);
+        return Err(Refusal::PatchPorts);
     }
     if vectors_misplaced(s, patch, n) {
-        return refuse(32);
+        return Err(Refusal::PatchVectors);
     }
     Ok(h)
 }
@@ -101,9 +85,5 @@ fn read_patch(s: &[u8], patch: &[u8], h: Header) -> Result<Header, Refusal>
 pub fn read(s: &[u8], patch: &[u8]) -> Result<Header, Refusal>
     ensures { result ≡ reading_with s.now patch.now }
 {
-    let got = picture::read(s);
-    let Ok(h) = got else {
-        return got;
-    };
-    read_patch(s, patch, h)
+    read_patch(s, patch, picture::read(s)?)
 }

@@ -1,7 +1,7 @@
 // The rows of a patch: the number and offset of each port that stands in it, and the row of a port.
-ghost use Rattle.std.specs.Prelude.{true, ◌≡◌, ◌<◌, ◌-◌, ◌^◌};
+ghost use Rattle.std.specs.Prelude.{◌≡◌, ◌<◌, ◌-◌, ◌^◌};
 ghost use Rattle.patches.specs.Patch.{ports_in, row_at, port_in, offset_at};
-ghost use Rattle.patches.specs.Halves.{halved, halved_to, is_row, row_sought};
+ghost use Rattle.patches.specs.Halves.{halved, halved_to, row_sought};
 
 use ids::PortNo;
 use lent::u32_at;
@@ -83,24 +83,21 @@ fn halve_all(patch: &[u8], p: PortNo) -> Rows
         lo: 0,
         hi: ports_in(patch),
     };
-    let mut k: u8 = 0;
-    while k < HALVINGS {
+    for _halvings in 0..HALVINGS {
         rows = halve(patch, p, rows);
-        k += 1;
     }
     rows
 }
 
 // The row of port p, if it stands in the patch; of a patch that is refused, perhaps none where there is one.
 #[tactic(auto, unfolding(crate::specs::Parts::is_row_of, crate::specs::Halves::row_sought))]
-pub fn row_of(patch: &[u8], p: PortNo) -> Option<u64>
-    ensures value { result ≡ row_sought patch.now p.0 }
-    ensures result_value { is_row result ≡ true }
+pub fn row_of(patch: &[u8], p: PortNo) -> Option<u32>
+    ensures { result ≡ row_sought patch.now p.0 }
 {
     let row = halve_all(patch, p).lo;
     if row < ports_in(patch) {
         if port_in(patch, row) == p.0 as u32 {
-            return Some(row as u64);
+            return Some(row);
         }
     }
     None
