@@ -2,7 +2,8 @@
 use Rattle.std.specs.Prelude.{ℕ, Bool, ◌||◌, List}
 use Rattle.chassis.specs.declared.Decoders.{Decoders}
 use Rattle.chassis.specs.Chassis.{Chassis}
-use Rattle.claims.specs.Over.{chassis_over}
+use Rattle.patches.specs.declared.PatchedPicture.{PatchedPicture}
+use Rattle.claims.specs.Over.{chassis_over, chassis_in}
 
 -- at least one decoder but vga; with vga it is `at_least_one` (proofs/Joined)
 unfoldable pub beside_video : Decoders → Bool
@@ -27,3 +28,6 @@ video_first = 0xA0000
 
 abbrev pub chassis_beside : List ℕ → List ℕ → Chassis
 chassis_beside s patch = without_video (chassis_over s patch)
+
+abbrev pub beside_in : PatchedPicture → Chassis
+beside_in over = without_video (chassis_in over)

@@ -3,12 +3,13 @@ ghost use Rattle.std.specs.Prelude.{◌≡◌, ◌+◌, ◌<◌, ◌≤◌};
 ghost use Rattle.registers.specs.Record.{port_at};
 ghost use Rattle.patches.specs.Halves.{vector_over};
 ghost use Rattle.claims.specs.Conversion.{secondary_start, num_sec_dev, in_secondary_range, converted_by_bus, converted};
-ghost use Rattle.claims.specs.Over.{chassis_over};
+ghost use Rattle.claims.specs.Over.{chassis_in};
 
 use crate::claims;
 use crate::decoders::bus_claims;
-use chassis::{Conversion, UPSTREAM};
+use chassis::{Conversion, Kind};
 use ids::{PortNo, Rid, Target, Unit};
+use patches::PatchedPicture;
 use registers::{Fpb, Mechanism, Port, enabled, port_at, with_ari};
 
 // The unit where the Secondary range starts.
@@ -35,13 +36,13 @@ pub fn in_secondary_range(p: Port, rid: Rid) -> bool
     let f = p.fpb;
     let start = secondary_start(f);
     let unit = rid.unit();
-    if p.kind == UPSTREAM {
+    if Kind::try_from(p.kind) == Ok(Kind::Upstream) {
         return (start.0 <= unit.0) & (unit.0 < start.0 + secondary_units(f));
     }
     if with_ari(p) {
         return rid.bus() as u16 == start.0 / 32;
     }
-    unit.0 == start.0
+    unit == start
 }
 
 // What the bus pair makes of an ID that the port claims, where the Secondary range does not decide.
@@ -51,7 +52,7 @@ pub fn converted_by_bus(p: Port, rid: Rid) -> Conversion
 {
     let b = p.bridge;
     if bus_claims(b, rid) & (rid.bus() == b.secondary) {
-        if (p.kind == UPSTREAM) | with_ari(p) | (rid.device() == 0) {
+        if (Kind::try_from(p.kind) == Ok(Kind::Upstream)) | with_ari(p) | (rid.device() == 0) {
             return Conversion::Type0;
         }
         return Conversion::Unsupported;
@@ -61,11 +62,11 @@ pub fn converted_by_bus(p: Port, rid: Rid) -> Conversion
 
 // What port p makes of a configuration request for an ID.
 #[tactic(auto, unfolding(crate::specs::Conversion::converted))]
-fn converted_id<'a>(s: &'a [u8], patch: &'a [u8], p: PortNo, rid: Rid) -> Conversion
-    ensures { result ≡ converted (port_at s.now p.0) (vector_over s.now patch.now p.0) rid.0 }
+fn converted_id(over: &PatchedPicture, p: PortNo, rid: Rid) -> Conversion
+    ensures { result ≡ converted (port_at over.now.picture.bytes.now p.0) (vector_over over.now.picture.bytes.now over.now.patch.now p.0) rid.0 }
 {
-    if claims(s, patch, p, Target::Id(rid)) {
-        let port = port_at(s, p);
+    if claims(over, p, Target::Id(rid)) {
+        let port = port_at(over.picture.bytes, p);
         let f = port.fpb;
         if enabled(f, Mechanism::Rid) & in_secondary_range(port, rid) {
             return Conversion::Type0;
@@ -76,11 +77,11 @@ fn converted_id<'a>(s: &'a [u8], patch: &'a [u8], p: PortNo, rid: Rid) -> Conver
 }
 
 // What port p makes of a configuration request; an address is the target of none.
-pub fn conversion<'a>(s: &'a [u8], patch: &'a [u8], p: PortNo, t: Target) -> Conversion
-    ensures { result ≡ (chassis_over s.now patch.now).conversion p.0 t }
+pub fn conversion(over: &PatchedPicture, p: PortNo, t: Target) -> Conversion
+    ensures { result ≡ (chassis_in over.now).conversion p.0 t }
 {
     match t {
-        Target::Id(rid) => converted_id(s, patch, p, rid),
+        Target::Id(rid) => converted_id(over, p, rid),
         Target::Addr(_) => Conversion::NotClaimed,
     }
 }

@@ -1,8 +1,9 @@
 // Number 18: whether a port claims an ID for which its parent takes configuration requests.
 ghost use Rattle.std.specs.Prelude.{◌≡◌};
 ghost use Rattle.chassis.specs.Check.{takes, taken_at};
-ghost use Rattle.claims.specs.Over.{chassis_over};
+ghost use Rattle.claims.specs.Over.{chassis_in};
 
+use patches::PatchedPicture;
 use chassis::{Conversion, ROOT_PORT};
 use claims::{claims, conversion};
 use ids::{PortNo, Target};
@@ -22,10 +23,10 @@ fn takes(made: Conversion) -> bool
 
 // Whether port p is no root port and claims an ID that its parent takes; no port takes an address.
 #[tactic(auto, using(crate::proofs::AsAsked::taken_as_asked))]
-pub fn taken_at<'a>(s: &'a [u8], patch: &'a [u8], t: Target, p: PortNo) -> bool
-    ensures { result ≡ taken_at (chassis_over s.now patch.now) t p.0 }
+pub fn taken_at(over: &PatchedPicture, t: Target, p: PortNo) -> bool
+    ensures { result ≡ taken_at (chassis_in over.now) t p.0 }
 {
-    (kind_at(s, p) != ROOT_PORT)
-        & claims(s, patch, p, t)
-        & takes(conversion(s, patch, parent_at(s, p), t))
+    (kind_at(over.picture.bytes, p) != ROOT_PORT)
+        & claims(over, p, t)
+        & takes(conversion(over, parent_at(over.picture.bytes, p), t))
 }

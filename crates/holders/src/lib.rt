@@ -3,10 +3,10 @@
 
 ghost use Rattle.std.specs.Prelude.{◌≡◌};
 ghost use Rattle.chassis.specs.Chassis.{with_port, passes_at, lowest_at};
-ghost use Rattle.trees.specs.Trees.{count_of};
-ghost use Rattle.claims.specs.Over.{chassis_over};
+ghost use Rattle.claims.specs.Over.{chassis_in};
 ghost use Rattle.holders.specs.Holders.{regards};
 
+use patches::PatchedPicture;
 use chassis::Holders;
 use ids::{PortNo, Target};
 
@@ -19,30 +19,27 @@ pub enum Regard {
 }
 
 // Whether a port is looked at.
-fn regarded<'a>(s: &'a [u8], patch: &'a [u8], t: Target, regard: Regard, p: PortNo) -> bool
-    ensures { result ≡ regards regard (chassis_over s.now patch.now) t p.0 }
+fn regarded(over: &PatchedPicture, t: Target, regard: Regard, p: PortNo) -> bool
+    ensures { result ≡ regards regard (chassis_in over.now) t p.0 }
 {
     match regard {
-        Regard::Held => claims::holds(s, patch, p, t),
-        Regard::Own => claims::is_own(s, p, t),
-        Regard::Claimed => claims::claims(s, patch, p, t),
+        Regard::Held => claims::holds(over, p, t),
+        Regard::Own => claims::is_own(over.picture.bytes, p, t),
+        Regard::Claimed => claims::claims(over, p, t),
     }
 }
 
 // Whether a port stands at the place and is looked at: a port elsewhere costs one read.
 #[tactic(auto, unfolding(chassis::specs::Chassis::passes_at))]
-fn passes<'a>(
-    s: &'a [u8],
-    patch: &'a [u8],
-    place: PortNo,
+fn passes(over: &PatchedPicture, place: PortNo,
     t: Target,
     regard: Regard,
     p: PortNo,
 ) -> bool
-    ensures { result ≡ passes_at (chassis_over s.now patch.now) place.0 (regards regard (chassis_over s.now patch.now) t) p.0 }
+    ensures { result ≡ passes_at (chassis_in over.now) place.0 (regards regard (chassis_in over.now) t) p.0 }
 {
-    if registers::parent_at(s, p).0 == place.0 {
-        regarded(s, patch, t, regard, p)
+    if registers::parent_at(over.picture.bytes, p).0 == place.0 {
+        regarded(over, t, regard, p)
     } else {
         false
     }
@@ -65,24 +62,19 @@ fn with_port(found: Holders, p: PortNo, passes: bool) -> Holders
 
 // The two lowest ports of a place, of n in all, that are looked at.
 #[tactic(auto, using(crate::proofs::Laws::all_tried), unfolding(chassis::specs::Chassis::lowest_two))]
-pub fn lowest_at<'a>(
-    s: &'a [u8],
-    patch: &'a [u8],
-    n: u8,
-    place: PortNo,
+pub fn lowest_at(over: &PatchedPicture, place: PortNo,
     t: Target,
     regard: Regard,
 ) -> Holders
-    requires { n ≡ count_of s.now }
-    ensures { result ≡ lowest_at (chassis_over s.now patch.now) place.0 (regards regard (chassis_over s.now patch.now) t) }
+    ensures { result ≡ lowest_at (chassis_in over.now) place.0 (regards regard (chassis_in over.now) t) }
 {
     let mut found = Holders::Nobody;
     let mut p: u8 = 0;
-    while p < n {
+    while p < over.picture.count {
         found = with_port(
             found,
             PortNo(p),
-            passes(s, patch, place, t, regard, PortNo(p)),
+            passes(over, place, t, regard, PortNo(p)),
         );
         p += 1;
     }

@@ -1,11 +1,13 @@
 // The walk call: where a packet goes, from the host or from a device port.
 ghost use Rattle.std.specs.Prelude.{false, ◌≡◌, ◌<◌};
 ghost use Rattle.chassis.proofs.Tree.{Sane};
-ghost use Rattle.trees.specs.Trees.{count_of, tree_of};
-ghost use Rattle.claims.specs.Over.{chassis_over};
+ghost use Rattle.trees.specs.Trees.{tree_of};
+ghost use Rattle.claims.specs.Over.{chassis_in};
 ghost use Rattle.judge.specs.Asking.{id_too_large};
 ghost use Rattle.judge.specs.Walking.{packet_of, is_start, asked_wrongly, AskedGives, WalkGives};
 
+use trees::Picture;
+use patches::PatchedPicture;
 use crate::asking::{id_too_large, target_asked};
 use crate::refusals::number_16;
 use chassis::Packet;
@@ -30,49 +32,42 @@ fn packet_of(kind: u32, target: u64) -> Packet
 
 // Whether a packet may start there: at the root, or below a device port.
 #[tactic(auto, unfolding(chassis::specs::Tree::is_device_port, crate::specs::Walking::is_start))]
-fn is_start(s: &[u8], n: u8, start: u32) -> bool
-    requires { n ≡ count_of s.now }
-    ensures { result ≡ is_start (tree_of s.now) start }
+fn is_start(picture: &Picture, start: u32) -> bool
+    ensures { result ≡ is_start (tree_of picture.now.bytes.now) start }
 {
     if start == ROOT_START {
         return true;
     }
-    let count = n as u32;
+    let count = picture.count as u32;
     if count <= start {
         return false;
     }
-    trees::is_device_port(s, n, PortNo(start as u8))
+    picture.is_device_port(PortNo(start as u8))
 }
 
 // Number 16.
 #[tactic(auto, unfolding(crate::specs::Walking::asked_wrongly))]
-fn asked_wrongly(s: &[u8], n: u8, kind: u32, start: u32, target: u64) -> bool
-    requires { n ≡ count_of s.now }
-    ensures { result ≡ asked_wrongly (tree_of s.now) kind start target }
+fn asked_wrongly(picture: &Picture, kind: u32, start: u32, target: u64) -> bool
+    ensures { result ≡ asked_wrongly (tree_of picture.now.bytes.now) kind start target }
 {
-    (2 < kind) | id_too_large(kind, target) | !is_start(s, n, start)
+    (2 < kind) | id_too_large(kind, target) | !is_start(picture, start)
 }
 
 // Number 16, else where the packet ends, with every port crossed, over a picture of n ports that reads and a patch.
 #[tactic(auto, using(crate::proofs::Walks::gives_16, crate::proofs::Walks::gives_end, crate::proofs::Walks::id_fits, crate::proofs::Walks::small_start, crate::proofs::Walks::within_start))]
-pub fn walk_over<'a>(
-    s: &'a [u8],
-    patch: &'a [u8],
-    n: u8,
-    kind: u32,
+pub fn walk_over(over: &PatchedPicture, kind: u32,
     start: u32,
     target: u64,
 ) -> Result<Walked, Refusal>
-    requires n_value { n ≡ count_of s.now }
-    requires sane { Sane (tree_of s.now) }
-    ensures { AskedGives (asked_wrongly (tree_of s.now) kind start target) (chassis_over s.now patch.now) kind start target result }
+    requires sane { Sane (tree_of over.now.picture.bytes.now) }
+    ensures { AskedGives (asked_wrongly (tree_of over.now.picture.bytes.now) kind start target) (chassis_in over.now) kind start target result }
 {
-    if asked_wrongly(s, n, kind, start, target) {
+    if asked_wrongly(over.picture.bytes, over.picture.count, kind, start, target) {
         return Err(number_16());
     }
     let packet = packet_of(kind, target);
-    let from = routes::starts_at(s, patch, packet, PortNo(start as u8));
-    Ok(routes::walk_from(s, patch, n, packet, from))
+    let from = routes::starts_at(over, packet, PortNo(start as u8));
+    Ok(routes::walk_from(over, packet, from))
 }
 
 // Numbers 1 to 10, then 16, else where the packet ends, with every port crossed.

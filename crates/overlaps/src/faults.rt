@@ -1,11 +1,11 @@
 // Numbers 11 to 14 and 18: the least target with a fault, told which fault and which space.
 ghost use Rattle.std.specs.Prelude.{◌≡◌, ◌+◌, ◌<◌};
 ghost use Rattle.chassis.specs.Check.{faulty, least_target};
-ghost use Rattle.trees.specs.Trees.{count_of};
-ghost use Rattle.claims.specs.Over.{chassis_over};
-ghost use Rattle.claims.specs.Beside.{chassis_beside};
+ghost use Rattle.claims.specs.Over.{chassis_in};
+ghost use Rattle.claims.specs.Beside.{beside_in};
 ghost use Rattle.overlaps.specs.Overlaps.{faulty_to};
 
+use patches::PatchedPicture;
 use crate::pairs::with_pairs;
 use crate::strays::with_child;
 use crate::taken::with_taken;
@@ -14,37 +14,31 @@ use chassis::Fault;
 use ids::{PortNo, Space};
 
 // The best so far, after port p was tried.
-fn with_port<'a>(
-    s: &'a [u8],
-    patch: &'a [u8],
-    n: u8,
-    fault: Fault,
+fn with_port(over: &PatchedPicture, fault: Fault,
     space: Space,
     p: u8,
     best: Option<u64>,
 ) -> Option<u64>
-    requires n_value { n ≡ count_of s.now }
-    requires p_lt_n { p < n }
-    requires best_value { best ≡ least_target (faulty_to fault (chassis_beside s.now patch.now) p) space }
-    ensures { result ≡ least_target (faulty_to fault (chassis_beside s.now patch.now) (p + 1)) space }
+    requires p_lt_n { p < over.now.picture.count }
+    requires best_value { best ≡ least_target (faulty_to fault (beside_in over.now) p) space }
+    ensures { result ≡ least_target (faulty_to fault (beside_in over.now) (p + 1)) space }
 {
     match fault {
-        Fault::Shared => with_pairs(s, patch, n, space, p, best),
-        Fault::Stray => with_child(s, patch, space, PortNo(p), best),
-        Fault::Taken => with_taken(s, patch, space, PortNo(p), best),
+        Fault::Shared => with_pairs(over, space, p, best),
+        Fault::Stray => with_child(over, space, PortNo(p), best),
+        Fault::Taken => with_taken(over, space, PortNo(p), best),
     }
 }
 
 // The least target of a space at which one of n ports is at fault beside the video range.
 #[tactic(auto, using(crate::proofs::Folds::faults_begin, crate::proofs::Folds::faults_end))]
-fn least_beside<'a>(s: &'a [u8], patch: &'a [u8], n: u8, fault: Fault, space: Space) -> Option<u64>
-    requires { n ≡ count_of s.now }
-    ensures { result ≡ least_target (faulty fault (chassis_beside s.now patch.now)) space }
+fn least_beside(over: &PatchedPicture, fault: Fault, space: Space) -> Option<u64>
+    ensures { result ≡ least_target (faulty fault (beside_in over.now)) space }
 {
     let mut best = None;
     let mut p: u8 = 0;
-    while p < n {
-        best = with_port(s, patch, n, fault, space, p, best);
+    while p < over.picture.count {
+        best = with_port(over, fault, space, p, best);
         p += 1;
     }
     best
@@ -52,19 +46,14 @@ fn least_beside<'a>(s: &'a [u8], patch: &'a [u8], n: u8, fault: Fault, space: Sp
 
 // The least target of a space at which one of n ports is at fault.
 #[tactic(auto, using(crate::proofs::WithVideo::least_address, crate::proofs::WithVideo::least_id, claims::proofs::OfVideo::of_video))]
-pub fn least_fault<'a>(
-    s: &'a [u8],
-    patch: &'a [u8],
-    n: u8,
-    fault: Fault,
+pub fn least_fault(over: &PatchedPicture, fault: Fault,
     space: Space,
 ) -> Option<u64>
-    requires { n ≡ count_of s.now }
-    ensures { result ≡ least_target (faulty fault (chassis_over s.now patch.now)) space }
+    ensures { result ≡ least_target (faulty fault (chassis_in over.now)) space }
 {
-    let beside = least_beside(s, patch, n, fault, space);
+    let beside = least_beside(over, fault, space);
     match space {
         Space::Ids => beside,
-        Space::Addresses => least::sooner(least_of_video(s, patch, n, fault), beside),
+        Space::Addresses => least::sooner(least_of_video(over, fault), beside),
     }
 }

@@ -4,27 +4,24 @@ ghost use Rattle.std.specs.Prelude.{◌≡◌, ◌+◌, ◌<◌};
 ghost use Rattle.least.specs.Least.{soonest};
 ghost use Rattle.chassis.specs.declared.Fault.TheVariants.{Shared};
 ghost use Rattle.chassis.specs.Check.{least_target};
-ghost use Rattle.trees.specs.Trees.{count_of};
-ghost use Rattle.claims.specs.Beside.{chassis_beside};
+ghost use Rattle.claims.specs.Beside.{beside_in};
 ghost use Rattle.overlaps.specs.Overlaps.{clash_of, faulty_to};
 
+use patches::PatchedPicture;
 use crate::meetings::{Holding, least_meeting};
 use ids::{PortNo, Space};
 use registers::parent_at;
 
 // The best so far, after ports p and q were tried; a port with itself is its own ID against its claims.
 #[tactic(auto, using(crate::proofs::Folds::no_pair, crate::proofs::Folds::pair_first))]
-fn with_pair<'a>(
-    s: &'a [u8],
-    patch: &'a [u8],
-    space: Space,
+fn with_pair(over: &PatchedPicture, space: Space,
     p: PortNo,
     q: PortNo,
     best: Option<u64>,
 ) -> Option<u64>
-    ensures { result ≡ soonest best (least_target (clash_of (chassis_beside s.now patch.now) p.0 q.0) space) }
+    ensures { result ≡ soonest best (least_target (clash_of (beside_in over.now) p.0 q.0) space) }
 {
-    if parent_at(s, p).0 == parent_at(s, q).0 {
+    if parent_at(over.picture.bytes, p).0 == parent_at(over.picture.bytes, q).0 {
         let apart = p.0 != q.0;
         let a = Holding {
             port: p,
@@ -38,7 +35,7 @@ fn with_pair<'a>(
             claims: true,
             taken: false,
         };
-        least_meeting(s, patch, space, a, b, true, best)
+        least_meeting(over, space, a, b, true, best)
     } else {
         best
     }
@@ -46,23 +43,18 @@ fn with_pair<'a>(
 
 // The best so far, after port p was tried with itself and with each later one; the earlier ones were tried with it.
 #[tactic(auto, using(crate::proofs::Folds::row_begins, crate::proofs::Folds::row_ends, crate::proofs::Folds::row_more, crate::proofs::Folds::seen))]
-pub fn with_pairs<'a>(
-    s: &'a [u8],
-    patch: &'a [u8],
-    n: u8,
-    space: Space,
+pub fn with_pairs(over: &PatchedPicture, space: Space,
     p: u8,
     best: Option<u64>,
 ) -> Option<u64>
-    requires n_value { n ≡ count_of s.now }
-    requires p_lt_n { p < n }
-    requires best_value { best ≡ least_target (faulty_to Shared (chassis_beside s.now patch.now) p) space }
-    ensures { result ≡ least_target (faulty_to Shared (chassis_beside s.now patch.now) (p + 1)) space }
+    requires p_lt_n { p < over.now.picture.count }
+    requires best_value { best ≡ least_target (faulty_to Shared (beside_in over.now) p) space }
+    ensures { result ≡ least_target (faulty_to Shared (beside_in over.now) (p + 1)) space }
 {
     let mut found = best;
     let mut q: u8 = p;
-    while q < n {
-        found = with_pair(s, patch, space, PortNo(p), PortNo(q), found);
+    while q < over.picture.count {
+        found = with_pair(over, space, PortNo(p), PortNo(q), found);
         q += 1;
     }
     found

@@ -2,9 +2,10 @@
 ghost use Rattle.std.specs.Prelude.{◌≡◌, ◌+◌};
 ghost use Rattle.chassis.specs.declared.Fault.TheVariants.{Stray};
 ghost use Rattle.chassis.specs.Check.{least_target};
-ghost use Rattle.claims.specs.Beside.{chassis_beside};
+ghost use Rattle.claims.specs.Beside.{beside_in};
 ghost use Rattle.overlaps.specs.Overlaps.{faulty_to};
 
+use patches::PatchedPicture;
 use crate::meetings::{Holding, least_meeting};
 use chassis::ROOT_PORT;
 use ids::{PortNo, Space};
@@ -12,17 +13,14 @@ use registers::{kind_at, parent_at};
 
 // The best so far, after port p was tried; nothing of a root port strays.
 #[tactic(auto, using(crate::proofs::Folds::with_stray, crate::proofs::Folds::without_stray))]
-pub fn with_child<'a>(
-    s: &'a [u8],
-    patch: &'a [u8],
-    space: Space,
+pub fn with_child(over: &PatchedPicture, space: Space,
     p: PortNo,
     best: Option<u64>,
 ) -> Option<u64>
-    requires { best ≡ least_target (faulty_to Stray (chassis_beside s.now patch.now) p.0) space }
-    ensures { result ≡ least_target (faulty_to Stray (chassis_beside s.now patch.now) (p.0 + 1)) space }
+    requires { best ≡ least_target (faulty_to Stray (beside_in over.now) p.0) space }
+    ensures { result ≡ least_target (faulty_to Stray (beside_in over.now) (p.0 + 1)) space }
 {
-    if kind_at(s, p) == ROOT_PORT {
+    if kind_at(over.picture.bytes, p) == ROOT_PORT {
         return best;
     }
     let held = Holding {
@@ -32,10 +30,10 @@ pub fn with_child<'a>(
         taken: false,
     };
     let claimed = Holding {
-        port: parent_at(s, p),
+        port: parent_at(over.picture.bytes, p),
         own: false,
         claims: true,
         taken: false,
     };
-    least_meeting(s, patch, space, held, claimed, false, best)
+    least_meeting(over, space, held, claimed, false, best)
 }

@@ -2,9 +2,10 @@
 ghost use Rattle.std.specs.Prelude.{◌≡◌, ◌+◌};
 ghost use Rattle.chassis.specs.declared.Fault.TheVariants.{Taken};
 ghost use Rattle.chassis.specs.Check.{least_target};
-ghost use Rattle.claims.specs.Beside.{chassis_beside};
+ghost use Rattle.claims.specs.Beside.{beside_in};
 ghost use Rattle.overlaps.specs.Overlaps.{faulty_to};
 
+use patches::PatchedPicture;
 use crate::meetings::{Holding, least_meeting};
 use chassis::ROOT_PORT;
 use ids::{PortNo, Space};
@@ -12,21 +13,18 @@ use registers::{kind_at, parent_at};
 
 // The best so far, after port p was tried; nothing of a root port is taken. What its parent takes is little, so it comes first.
 #[tactic(auto, using(crate::proofs::Folds::with_taken, crate::proofs::Folds::without_taken))]
-pub fn with_taken<'a>(
-    s: &'a [u8],
-    patch: &'a [u8],
-    space: Space,
+pub fn with_taken(over: &PatchedPicture, space: Space,
     p: PortNo,
     best: Option<u64>,
 ) -> Option<u64>
-    requires { best ≡ least_target (faulty_to Taken (chassis_beside s.now patch.now) p.0) space }
-    ensures { result ≡ least_target (faulty_to Taken (chassis_beside s.now patch.now) (p.0 + 1)) space }
+    requires { best ≡ least_target (faulty_to Taken (beside_in over.now) p.0) space }
+    ensures { result ≡ least_target (faulty_to Taken (beside_in over.now) (p.0 + 1)) space }
 {
-    if kind_at(s, p) == ROOT_PORT {
+    if kind_at(over.picture.bytes, p) == ROOT_PORT {
         return best;
     }
     let taken = Holding {
-        port: parent_at(s, p),
+        port: parent_at(over.picture.bytes, p),
         own: false,
         claims: false,
         taken: true,
@@ -37,5 +35,5 @@ pub fn with_taken<'a>(
         claims: true,
         taken: false,
     };
-    least_meeting(s, patch, space, taken, claimed, true, best)
+    least_meeting(over, space, taken, claimed, true, best)
 }

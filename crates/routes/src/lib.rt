@@ -7,10 +7,11 @@ mod steps;
 ghost use Rattle.std.specs.Prelude.{◌≡◌};
 ghost use Rattle.chassis.proofs.Steps.{Within};
 ghost use Rattle.chassis.proofs.Tree.{Sane};
-ghost use Rattle.trees.specs.Trees.{count_of, tree_of};
-ghost use Rattle.claims.specs.Over.{chassis_over};
+ghost use Rattle.trees.specs.Trees.{tree_of};
+ghost use Rattle.claims.specs.Over.{chassis_in};
 ghost use Rattle.routes.specs.Routes.{Arrives};
 
+use patches::PatchedPicture;
 use chassis::{End, Packet, Step, Whereabouts};
 use paths::Path;
 pub use starts::starts_at;
@@ -24,22 +25,17 @@ pub struct Walked {
 
 // A packet's way from its start to its end.
 #[tactic(auto, using(crate::proofs::Laws::Underway, crate::proofs::Laws::arrives, crate::proofs::Laws::goes_on, crate::proofs::Laws::nearer, crate::proofs::Laws::room, crate::proofs::Laws::sets_out))]
-pub fn walk_from<'a>(
-    s: &'a [u8],
-    patch: &'a [u8],
-    n: u8,
-    packet: Packet,
+pub fn walk_from(over: &PatchedPicture, packet: Packet,
     start: Whereabouts,
 ) -> Walked
-    requires n_value { n ≡ count_of s.now }
-    requires sane { Sane (tree_of s.now) }
-    requires within { Within (chassis_over s.now patch.now) start }
-    ensures { Arrives (chassis_over s.now patch.now) packet start result }
+    requires sane { Sane (tree_of over.now.picture.bytes.now) }
+    requires within { Within (chassis_in over.now) start }
+    ensures { Arrives (chassis_in over.now) packet start result }
 {
     let mut path = Path::new();
     let mut whereabouts = start;
     loop {
-        match steps::step(s, patch, n, packet, whereabouts) {
+        match steps::step(over, packet, whereabouts) {
             Step::Stop(end) => return Walked { path, end },
             Step::Cross(p, beyond) => {
                 path = path.crossed(p);

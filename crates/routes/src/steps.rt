@@ -3,9 +3,10 @@ ghost use Rattle.std.specs.Prelude.{ℕ, List, ◌≡◌};
 ghost use Rattle.chassis.specs.Tree.{root};
 ghost use Rattle.chassis.specs.Walk.{target_of, function_number, decided, sole_holder, device_or, come_to, next};
 ghost use Rattle.chassis.specs.Walk.{downward as Walk·downward, upward as Walk·upward, from_below, towards_root, under_type0, under_type1, at_place};
-ghost use Rattle.trees.specs.Trees.{count_of};
-ghost use Rattle.claims.specs.Over.{chassis_over};
+ghost use Rattle.claims.specs.Over.{chassis_over, chassis_in};
 
+use trees::Picture;
+use patches::PatchedPicture;
 use chassis::{Conversion, End, Holders, Packet, Step, Whereabouts};
 use holders::{Regard, lowest_at};
 use ids::{PortNo, Target};
@@ -50,33 +51,32 @@ fn decide(p: PortNo, conversion: Conversion) -> Step
 
 // Crossing a port downward.
 #[tactic(auto, unfolding(chassis::specs::Walk::downward))]
-fn downward<'a>(s: &'a [u8], patch: &'a [u8], packet: Packet, p: PortNo) -> Step
-    ensures { result ≡ Walk·downward (chassis_over s.now patch.now) packet p }
+fn downward(over: &PatchedPicture, packet: Packet, p: PortNo) -> Step
+    ensures { result ≡ Walk·downward (chassis_in over.now) packet p }
 {
     match packet {
         Packet::Plain(_) => Step::Cross(p, Whereabouts::Into(p)),
-        Packet::Config(rid) => decide(p, claims::conversion(s, patch, p, Target::Id(rid))),
+        Packet::Config(rid) => decide(p, claims::conversion(over, p, Target::Id(rid))),
     }
 }
 
 // Rule 2.
 #[tactic(auto, unfolding(chassis::specs::Walk::sole_holder))]
-fn sole_holder<'a>(s: &'a [u8], patch: &'a [u8], packet: Packet, p: PortNo) -> Step
-    ensures { result ≡ sole_holder (chassis_over s.now patch.now) packet p }
+fn sole_holder(over: &PatchedPicture, packet: Packet, p: PortNo) -> Step
+    ensures { result ≡ sole_holder (chassis_in over.now) packet p }
 {
-    if claims::is_own(s, p, target_of(packet)) {
+    if claims::is_own(over.picture.bytes, p, target_of(packet)) {
         return Step::Stop(End::Function(p));
     }
-    downward(s, patch, packet, p)
+    downward(over, packet, p)
 }
 
 // Rule 4, and what Type 0 comes to where no own ID is the target, whatever the patch.
 #[tactic(auto, unfolding(chassis::specs::Walk::device_or))]
-fn device_or(s: &[u8], n: u8, q: PortNo, function: u8) -> Step
-    requires { n ≡ count_of s.now }
-    ensures { (patch : List ℕ) → result ≡ device_or (chassis_over s.now patch) q function }
+fn device_or(picture: &Picture, q: PortNo, function: u8) -> Step
+    ensures { (patch : List ℕ) → result ≡ device_or (chassis_over picture.now.bytes.now patch) q function }
 {
-    if trees::is_device_port(s, n, q) {
+    if picture.is_device_port(q) {
         Step::Stop(End::Device(q, function))
     } else {
         Step::Stop(End::Unsupported(q))
@@ -99,54 +99,51 @@ pub fn come_to(redirected: bool, place: PortNo) -> Whereabouts
 
 // Rule 5.
 #[tactic(auto, unfolding(chassis::specs::Walk::upward))]
-fn upward<'a>(s: &'a [u8], patch: &'a [u8], t: Target, q: PortNo) -> Step
-    ensures { result ≡ Walk·upward (chassis_over s.now patch.now) t q }
+fn upward(over: &PatchedPicture, t: Target, q: PortNo) -> Step
+    ensures { result ≡ Walk·upward (chassis_in over.now) t q }
 {
-    if claims::claims(s, patch, q, t) {
+    if claims::claims(over, q, t) {
         Step::Stop(End::Unsupported(q))
     } else {
-        Step::Cross(q, come_to(false, registers::parent_at(s, q)))
+        Step::Cross(q, come_to(false, registers::parent_at(over.picture.bytes, q)))
     }
 }
 
 // At the root: rules 1 to 3.
 #[tactic(auto, unfolding(chassis::specs::Walk::by_holders))]
-fn at_root<'a>(s: &'a [u8], patch: &'a [u8], n: u8, packet: Packet) -> Step
-    requires { n ≡ count_of s.now }
-    ensures { result ≡ at_place (chassis_over s.now patch.now) packet root (Step.Stop End.Host) }
+fn at_root(over: &PatchedPicture, packet: Packet) -> Step
+    ensures { result ≡ at_place (chassis_in over.now) packet root (Step.Stop End.Host) }
 {
-    match lowest_at(s, patch, n, PortNo::ROOT, target_of(packet), Regard::Held) {
+    match lowest_at(over, PortNo::ROOT, target_of(packet), Regard::Held) {
         Holders::Nobody => Step::Stop(End::Host),
-        Holders::Only(p) => sole_holder(s, patch, packet, p),
+        Holders::Only(p) => sole_holder(over, packet, p),
         Holders::Both(p, q) => Step::Stop(End::Doubled(p, q)),
     }
 }
 
 // Below a port, come from above: rules 1, 2 and 4.
 #[tactic(auto, unfolding(chassis::specs::Walk::by_holders))]
-fn from_above<'a>(s: &'a [u8], patch: &'a [u8], n: u8, packet: Packet, q: PortNo) -> Step
-    requires { n ≡ count_of s.now }
-    ensures { result ≡ at_place (chassis_over s.now patch.now) packet q.0 (device_or (chassis_over s.now patch.now) q 0) }
+fn from_above(over: &PatchedPicture, packet: Packet, q: PortNo) -> Step
+    ensures { result ≡ at_place (chassis_in over.now) packet q.0 (device_or (chassis_in over.now) q 0) }
 {
-    match lowest_at(s, patch, n, q, target_of(packet), Regard::Held) {
-        Holders::Nobody => device_or(s, n, q, 0),
-        Holders::Only(p) => sole_holder(s, patch, packet, p),
+    match lowest_at(over, q, target_of(packet), Regard::Held) {
+        Holders::Nobody => device_or(&over.picture, q, 0),
+        Holders::Only(p) => sole_holder(over, packet, p),
         Holders::Both(p, r) => Step::Stop(End::Doubled(p, r)),
     }
 }
 
 // Below a port, started or come from below: rules 1, 2 and 5.
 #[tactic(auto, unfolding(chassis::specs::Walk::by_holders, chassis::specs::Walk::from_below))]
-fn from_below<'a>(s: &'a [u8], patch: &'a [u8], n: u8, packet: Packet, q: PortNo) -> Step
-    requires { n ≡ count_of s.now }
-    ensures { result ≡ from_below (chassis_over s.now patch.now) packet q }
+fn from_below(over: &PatchedPicture, packet: Packet, q: PortNo) -> Step
+    ensures { result ≡ from_below (chassis_in over.now) packet q }
 {
     let Packet::Plain(t) = packet else {
         return Step::Stop(End::Unsupported(q));
     };
-    match lowest_at(s, patch, n, q, t, Regard::Held) {
-        Holders::Nobody => upward(s, patch, t, q),
-        Holders::Only(p) => sole_holder(s, patch, packet, p),
+    match lowest_at(over, q, t, Regard::Held) {
+        Holders::Nobody => upward(over, t, q),
+        Holders::Only(p) => sole_holder(over, packet, p),
         Holders::Both(p, r) => Step::Stop(End::Doubled(p, r)),
     }
 }
@@ -161,12 +158,11 @@ fn towards_root(s: &[u8], q: PortNo) -> Step
 
 // Below a port that made the request Type 0: own IDs alone are looked at.
 #[tactic(auto, unfolding(chassis::specs::Walk::by_holders, chassis::specs::Walk::under_type0))]
-fn under_type0<'a>(s: &'a [u8], patch: &'a [u8], n: u8, t: Target, q: PortNo) -> Step
-    requires { n ≡ count_of s.now }
-    ensures { result ≡ under_type0 (chassis_over s.now patch.now) t q }
+fn under_type0(over: &PatchedPicture, t: Target, q: PortNo) -> Step
+    ensures { result ≡ under_type0 (chassis_in over.now) t q }
 {
-    match lowest_at(s, patch, n, q, t, Regard::Own) {
-        Holders::Nobody => device_or(s, n, q, function_number(s, q, t)),
+    match lowest_at(over, q, t, Regard::Own) {
+        Holders::Nobody => device_or(&over.picture, q, function_number(over.picture.bytes, q, t)),
         Holders::Only(p) => Step::Stop(End::Function(p)),
         Holders::Both(p, r) => Step::Stop(End::Doubled(p, r)),
     }
@@ -174,35 +170,29 @@ fn under_type0<'a>(s: &'a [u8], patch: &'a [u8], n: u8, t: Target, q: PortNo) ->
 
 // Below a port that passed the request on as Type 1: claims alone are looked at.
 #[tactic(auto, unfolding(chassis::specs::Walk::by_holders, chassis::specs::Walk::under_type1))]
-fn under_type1<'a>(s: &'a [u8], patch: &'a [u8], n: u8, t: Target, q: PortNo) -> Step
-    requires { n ≡ count_of s.now }
-    ensures { result ≡ under_type1 (chassis_over s.now patch.now) t q }
+fn under_type1(over: &PatchedPicture, t: Target, q: PortNo) -> Step
+    ensures { result ≡ under_type1 (chassis_in over.now) t q }
 {
-    match lowest_at(s, patch, n, q, t, Regard::Claimed) {
+    match lowest_at(over, q, t, Regard::Claimed) {
         Holders::Nobody => Step::Stop(End::Unsupported(q)),
-        Holders::Only(p) => decide(p, claims::conversion(s, patch, p, t)),
+        Holders::Only(p) => decide(p, claims::conversion(over, p, t)),
         Holders::Both(p, r) => Step::Stop(End::Doubled(p, r)),
     }
 }
 
 // What a packet does next.
 #[tactic(auto, unfolding(chassis::specs::Walk::next))]
-pub fn step<'a>(
-    s: &'a [u8],
-    patch: &'a [u8],
-    n: u8,
-    packet: Packet,
+pub fn step(over: &PatchedPicture, packet: Packet,
     whereabouts: Whereabouts,
 ) -> Step
-    requires { n ≡ count_of s.now }
-    ensures { result ≡ next (chassis_over s.now patch.now) packet whereabouts }
+    ensures { result ≡ next (chassis_in over.now) packet whereabouts }
 {
     match whereabouts {
-        Whereabouts::Root => at_root(s, patch, n, packet),
-        Whereabouts::Into(q) => from_above(s, patch, n, packet, q),
-        Whereabouts::From(q) => from_below(s, patch, n, packet, q),
-        Whereabouts::Redirected(q) => towards_root(s, q),
-        Whereabouts::Type0(q) => under_type0(s, patch, n, target_of(packet), q),
-        Whereabouts::Type1(q) => under_type1(s, patch, n, target_of(packet), q),
+        Whereabouts::Root => at_root(over, packet),
+        Whereabouts::Into(q) => from_above(over, packet, q),
+        Whereabouts::From(q) => from_below(over, packet, q),
+        Whereabouts::Redirected(q) => towards_root(over.picture.bytes, q),
+        Whereabouts::Type0(q) => under_type0(over, target_of(packet), q),
+        Whereabouts::Type1(q) => under_type1(over, target_of(packet), q),
     }
 }

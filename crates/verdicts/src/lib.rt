@@ -6,8 +6,9 @@ ghost use Rattle.least.specs.Least.{first_in};
 ghost use Rattle.chassis.specs.Chassis.{target_in, space_size};
 ghost use Rattle.chassis.specs.Check.{own_id_lost, faulty, least_target, verdict_at, at_least, lost_at, row_of, or_next, verdict_of};
 ghost use Rattle.trees.specs.Trees.{count_of};
-ghost use Rattle.claims.specs.Over.{chassis_over};
+ghost use Rattle.claims.specs.Over.{chassis_in};
 
+use patches::PatchedPicture;
 use chassis::{Fault, Row, Verdict};
 use claims::hold_of;
 use culprits::{PortFault, first_pair, lowest, lowest_port};
@@ -27,48 +28,45 @@ fn target_in(space: Space, t: u64) -> Target
 
 // What a faulty target shows: the first pair at it, or the lowest port, each with its hold on it.
 #[tactic(auto, unfolding(culprits::specs::Culprits::pair_at))]
-fn verdict_at<'a>(s: &'a [u8], patch: &'a [u8], n: u8, fault: Fault, t: Target) -> Verdict
-    requires n_value { n ≡ count_of s.now }
-    requires t_value { faulty fault (chassis_over s.now patch.now) t ≡ true }
-    ensures { result ≡ verdict_at (chassis_over s.now patch.now) fault t }
+fn verdict_at(over: &PatchedPicture, fault: Fault, t: Target) -> Verdict
+    requires t_value { faulty fault (chassis_in over.now) t ≡ true }
+    ensures { result ≡ verdict_at (chassis_in over.now) fault t }
 {
     match fault {
         Fault::Shared => {
-            let pair = first_pair(s, patch, n, t);
-            let first = hold_of(s, patch, pair.first, t);
-            let second = hold_of(s, patch, pair.second, t);
+            let pair = first_pair(over, t);
+            let first = hold_of(over, pair.first, t);
+            let second = hold_of(over, pair.second, t);
             Verdict::Shared(t, first, second)
         }
         Fault::Stray => {
-            let port = lowest_port(s, patch, n, PortFault::Stray(t));
-            Verdict::Stray(t, hold_of(s, patch, port, t))
+            let port = lowest_port(over, PortFault::Stray(t));
+            Verdict::Stray(t, hold_of(over, port, t))
         }
         Fault::Taken => {
-            let port = lowest_port(s, patch, n, PortFault::Taken(t));
-            Verdict::Taken(t, hold_of(s, patch, port, t))
+            let port = lowest_port(over, PortFault::Taken(t));
+            Verdict::Taken(t, hold_of(over, port, t))
         }
     }
 }
 
 // Numbers 11 to 14 and 18: a fault at the least target of a space.
 #[tactic(auto, using(crate::proofs::Laws::target_below, crate::proofs::Laws::target_passes))]
-fn fault_in<'a>(s: &'a [u8], patch: &'a [u8], n: u8, fault: Fault, space: Space) -> Verdict
-    requires { n ≡ count_of s.now }
-    ensures { result ≡ at_least (chassis_over s.now patch.now) fault space (least_target (faulty fault (chassis_over s.now patch.now)) space) }
+fn fault_in(over: &PatchedPicture, fault: Fault, space: Space) -> Verdict
+    ensures { result ≡ at_least (chassis_in over.now) fault space (least_target (faulty fault (chassis_in over.now)) space) }
 {
-    match least_fault(s, patch, n, fault, space) {
-        Some(t) => verdict_at(s, patch, n, fault, target_in(space, t)),
+    match least_fault(over, fault, space) {
+        Some(t) => verdict_at(over, fault, target_in(space, t)),
         None => Verdict::Clear,
     }
 }
 
 // Number 15.
 #[tactic(auto, using(culprits::proofs::LowestPort::port_small))]
-fn own_id_lost<'a>(s: &'a [u8], patch: &'a [u8], n: u8) -> Verdict
-    requires { n ≡ count_of s.now }
-    ensures { result ≡ lost_at (first_in (own_id_lost (chassis_over s.now patch.now)) 0 (count_of s.now)) }
+fn own_id_lost(over: &PatchedPicture) -> Verdict
+    ensures { result ≡ lost_at (first_in (own_id_lost (chassis_in over.now)) 0 (count_of over.now.picture.bytes.now)) }
 {
-    match lowest(s, patch, n, PortFault::Lost) {
+    match lowest(over, PortFault::Lost) {
         Some(p) => Verdict::Lost(PortNo(p as u8)),
         None => Verdict::Clear,
     }
@@ -76,24 +74,22 @@ fn own_id_lost<'a>(s: &'a [u8], patch: &'a [u8], n: u8) -> Verdict
 
 // What a row of the table finds in a picture of n ports, whatever the other rows find.
 #[tactic(auto, unfolding(chassis::specs::Check::row_of))]
-pub fn of_row<'a>(s: &'a [u8], patch: &'a [u8], n: u8, row: Row) -> Verdict
-    requires { n ≡ count_of s.now }
-    ensures { result ≡ row_of (chassis_over s.now patch.now) row }
+pub fn of_row(over: &PatchedPicture, row: Row) -> Verdict
+    ensures { result ≡ row_of (chassis_in over.now) row }
 {
     match row {
-        Row::At(fault, space) => fault_in(s, patch, n, fault, space),
-        Row::Lost => own_id_lost(s, patch, n),
+        Row::At(fault, space) => fault_in(over, fault, space),
+        Row::Lost => own_id_lost(over),
     }
 }
 
 // The verdict of the rows before, or what the next row finds, which is looked for only where they are clear.
 #[tactic(auto, unfolding(chassis::specs::Check::or_next))]
-fn or_row<'a>(s: &'a [u8], patch: &'a [u8], n: u8, before: Verdict, next: Row) -> Verdict
-    requires { n ≡ count_of s.now }
-    ensures { result ≡ or_next before (row_of (chassis_over s.now patch.now) next) }
+fn or_row(over: &PatchedPicture, before: Verdict, next: Row) -> Verdict
+    ensures { result ≡ or_next before (row_of (chassis_in over.now) next) }
 {
     match before {
-        Verdict::Clear => of_row(s, patch, n, next),
+        Verdict::Clear => of_row(over, next),
         Verdict::Shared(t, p, q) => Verdict::Shared(t, p, q),
         Verdict::Stray(t, p) => Verdict::Stray(t, p),
         Verdict::Lost(p) => Verdict::Lost(p),
@@ -103,26 +99,17 @@ fn or_row<'a>(s: &'a [u8], patch: &'a [u8], n: u8, before: Verdict, next: Row) -
 
 // The first row that is not clear, of a picture of n ports.
 #[tactic(auto, using(crate::proofs::Laws::rows_chained), unfolding(chassis::specs::Check::verdict_of))]
-pub fn verdict<'a>(s: &'a [u8], patch: &'a [u8], n: u8) -> Verdict
-    requires { n ≡ count_of s.now }
-    ensures { result ≡ verdict_of (chassis_over s.now patch.now) }
+pub fn verdict(over: &PatchedPicture) -> Verdict
+    ensures { result ≡ verdict_of (chassis_in over.now) }
 {
-    let shared_id = of_row(s, patch, n, Row::At(Fault::Shared, Space::Ids));
-    let shared = or_row(
-        s,
-        patch,
-        n,
-        shared_id,
+    let shared_id = of_row(over, Row::At(Fault::Shared, Space::Ids));
+    let shared = or_row(over, shared_id,
         Row::At(Fault::Shared, Space::Addresses),
     );
-    let stray_id = or_row(s, patch, n, shared, Row::At(Fault::Stray, Space::Ids));
-    let stray = or_row(
-        s,
-        patch,
-        n,
-        stray_id,
+    let stray_id = or_row(over, shared, Row::At(Fault::Stray, Space::Ids));
+    let stray = or_row(over, stray_id,
         Row::At(Fault::Stray, Space::Addresses),
     );
-    let lost = or_row(s, patch, n, stray, Row::Lost);
-    or_row(s, patch, n, lost, Row::At(Fault::Taken, Space::Ids))
+    let lost = or_row(over, stray, Row::Lost);
+    or_row(over, lost, Row::At(Fault::Taken, Space::Ids))
 }
