@@ -11,8 +11,8 @@ ghost use Rattle.trees.specs.Trees.{tree_of};
 ghost use Rattle.claims.specs.Over.{chassis_in};
 ghost use Rattle.routes.specs.Routes.{Arrives};
 
-use patches::PatchedPicture;
 use chassis::{End, Packet, Step, Whereabouts};
+use patches::PatchedPicture;
 use paths::Path;
 pub use starts::starts_at;
 
@@ -25,9 +25,7 @@ pub struct Walked {
 
 // A packet's way from its start to its end.
 #[tactic(auto, using(crate::proofs::Laws::Underway, crate::proofs::Laws::arrives, crate::proofs::Laws::goes_on, crate::proofs::Laws::nearer, crate::proofs::Laws::room, crate::proofs::Laws::sets_out))]
-pub fn walk_from(over: &PatchedPicture, packet: Packet,
-    start: Whereabouts,
-) -> Walked
+pub fn walk_from(over: &PatchedPicture, packet: Packet, start: Whereabouts) -> Walked
     requires sane { Sane (tree_of over.now.picture.bytes.now) }
     requires within { Within (chassis_in over.now) start }
     ensures { Arrives (chassis_in over.now) packet start result }

@@ -3,10 +3,10 @@ ghost use Rattle.std.specs.Prelude.{◌≡◌};
 ghost use Rattle.chassis.specs.Walk.{is_redirected, starts_at};
 ghost use Rattle.claims.specs.Over.{chassis_in};
 
-use patches::PatchedPicture;
 use crate::steps::come_to;
 use chassis::{Packet, Whereabouts};
 use ids::{PortNo, Target};
+use patches::PatchedPicture;
 
 // Whether a packet is redirected that starts below this port: one for an address, where the port has redirect and does not claim it.
 #[tactic(auto, unfolding(chassis::specs::Walk::is_redirected))]

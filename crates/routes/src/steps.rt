@@ -5,11 +5,11 @@ ghost use Rattle.chassis.specs.Walk.{target_of, function_number, decided, sole_h
 ghost use Rattle.chassis.specs.Walk.{downward as Walk·downward, upward as Walk·upward, from_below, towards_root, under_type0, under_type1, at_place};
 ghost use Rattle.claims.specs.Over.{chassis_over, chassis_in};
 
-use trees::Picture;
-use patches::PatchedPicture;
 use chassis::{Conversion, End, Holders, Packet, Step, Whereabouts};
-use holders::{Regard, lowest_at};
+use holders::lowest_at;
 use ids::{PortNo, Target};
+use patches::PatchedPicture;
+use trees::Picture;
 
 // What a packet is sent to.
 fn target_of(packet: Packet) -> Target
@@ -88,7 +88,7 @@ fn device_or(picture: &Picture, q: PortNo, function: u8) -> Step
 pub fn come_to(redirected: bool, place: PortNo) -> Whereabouts
     ensures { result ≡ come_to redirected place.0 }
 {
-    if place.0 == PortNo::ROOT.0 {
+    if place == PortNo::ROOT {
         return Whereabouts::Root;
     }
     if redirected {
@@ -105,7 +105,10 @@ fn upward(over: &PatchedPicture, t: Target, q: PortNo) -> Step
     if claims::claims(over, q, t) {
         Step::Stop(End::Unsupported(q))
     } else {
-        Step::Cross(q, come_to(false, registers::parent_at(over.picture.bytes, q)))
+        Step::Cross(
+            q,
+            come_to(false, registers::parent_at(over.picture.bytes, q)),
+        )
     }
 }
 
@@ -114,7 +117,8 @@ fn upward(over: &PatchedPicture, t: Target, q: PortNo) -> Step
 fn at_root(over: &PatchedPicture, packet: Packet) -> Step
     ensures { result ≡ at_place (chassis_in over.now) packet root (Step.Stop End.Host) }
 {
-    match lowest_at(over, PortNo::ROOT, target_of(packet), Regard::Held) {
+    let t = target_of(packet);
+    match lowest_at(&over.picture, PortNo::ROOT, |p| claims::holds(over, p, t)) {
         Holders::Nobody => Step::Stop(End::Host),
         Holders::Only(p) => sole_holder(over, packet, p),
         Holders::Both(p, q) => Step::Stop(End::Doubled(p, q)),
@@ -126,7 +130,8 @@ fn at_root(over: &PatchedPicture, packet: Packet) -> Step
 fn from_above(over: &PatchedPicture, packet: Packet, q: PortNo) -> Step
     ensures { result ≡ at_place (chassis_in over.now) packet q.0 (device_or (chassis_in over.now) q 0) }
 {
-    match lowest_at(over, q, target_of(packet), Regard::Held) {
+    let t = target_of(packet);
+    match lowest_at(&over.picture, q, |p| claims::holds(over, p, t)) {
         Holders::Nobody => device_or(&over.picture, q, 0),
         Holders::Only(p) => sole_holder(over, packet, p),
         Holders::Both(p, r) => Step::Stop(End::Doubled(p, r)),
@@ -141,7 +146,7 @@ fn from_below(over: &PatchedPicture, packet: Packet, q: PortNo) -> Step
     let Packet::Plain(t) = packet else {
         return Step::Stop(End::Unsupported(q));
     };
-    match lowest_at(over, q, t, Regard::Held) {
+    match lowest_at(&over.picture, q, |p| claims::holds(over, p, t)) {
         Holders::Nobody => upward(over, t, q),
         Holders::Only(p) => sole_holder(over, packet, p),
         Holders::Both(p, r) => Step::Stop(End::Doubled(p, r)),
@@ -161,7 +166,11 @@ fn towards_root(s: &[u8], q: PortNo) -> Step
 fn under_type0(over: &PatchedPicture, t: Target, q: PortNo) -> Step
     ensures { result ≡ under_type0 (chassis_in over.now) t q }
 {
-    match lowest_at(over, q, t, Regard::Own) {
+    match lowest_at(
+        &over.picture,
+        q,
+        |p| claims::is_own(over.picture.bytes, p, t),
+    ) {
         Holders::Nobody => device_or(&over.picture, q, function_number(over.picture.bytes, q, t)),
         Holders::Only(p) => Step::Stop(End::Function(p)),
         Holders::Both(p, r) => Step::Stop(End::Doubled(p, r)),
@@ -173,7 +182,7 @@ fn under_type0(over: &PatchedPicture, t: Target, q: PortNo) -> Step
 fn under_type1(over: &PatchedPicture, t: Target, q: PortNo) -> Step
     ensures { result ≡ under_type1 (chassis_in over.now) t q }
 {
-    match lowest_at(over, q, t, Regard::Claimed) {
+    match lowest_at(&over.picture, q, |p| claims::claims(over, p, t)) {
         Holders::Nobody => Step::Stop(End::Unsupported(q)),
         Holders::Only(p) => decide(p, claims::conversion(over, p, t)),
         Holders::Both(p, r) => Step::Stop(End::Doubled(p, r)),
@@ -182,9 +191,7 @@ fn under_type1(over: &PatchedPicture, t: Target, q: PortNo) -> Step
 
 // What a packet does next.
 #[tactic(auto, unfolding(chassis::specs::Walk::next))]
-pub fn step(over: &PatchedPicture, packet: Packet,
-    whereabouts: Whereabouts,
-) -> Step
+pub fn step(over: &PatchedPicture, packet: Packet, whereabouts: Whereabouts) -> Step
     ensures { result ≡ next (chassis_in over.now) packet whereabouts }
 {
     match whereabouts {

@@ -1,11 +1,10 @@
 use Rattle.claims.specs.Over.{chassis_over}
 use Rattle.chassis.specs.Chassis.{lowest_two, passes_at}
-use Rattle.holders.specs.Holders.{regards}
-use Rattle.std.proofs.Common.{◌-◌, ◌≡◌, ◌≤◌}
+use Rattle.chassis.specs.Looking.{Tells}
+use Rattle.std.proofs.Common.{ℕ, Bool, List, ◌≡◌}
 use Rattle.holders.proofs.lowest_at.Given as goal
 
-abbrev pub invariant-loop-p : goal.invariant-loop-p
-invariant-loop-p l = (l.p ≤ l.n) × (l.found ≡ lowest_two (passes_at (chassis_over l.s l.patch) l.place.0 (regards l.regard (chassis_over l.s l.patch) l.t)) l.p)
-
-abbrev pub decreases-loop-p : goal.decreases-loop-p
-decreases-loop-p l = l.n - l.p
+abbrev pub invariant-loop-i : goal.invariant-loop-i
+invariant-loop-i g l =
+    (patch : List ℕ) (test : ℕ → Bool) → Tells (goal.F-post g l.passes) l.picture.count test
+    → l.found ≡ lowest_two (passes_at (chassis_over l.picture.bytes.now patch) l.place.0 test) l.i
