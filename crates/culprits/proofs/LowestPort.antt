@@ -1,14 +1,15 @@
--- A port that a search among the ports has found. Assumes nothing.
-use Prim.Native.Nat.{ℕ, ◌<◌}
-use mathlib.Core.Bool.{Bool}
-use mathlib.Core.Path.{◌≡◌}
-use native.Mathlib.Omega.{arith}
-use Rattle.least.specs.Least.{first_in}
-use Rattle.least.proofs.Laws.{is_at}
-use Rattle.std.specs.Prelude.{Option, Some}
+-- The port that a search among the ports comes to. Assumes nothing.
+use Rattle.std.proofs.Common.{ℕ, ◌≡◌, refl, ap, ◌∙◌}
+use Rattle.std.specs.Prelude.{Option, Some, None, unwrap_or}
+use Rattle.ids.specs.declared.PortNo.{PortNo}
+use Rattle.ids.specs.Ids.{no_port}
+use Rattle.chassis.specs.Check.{found}
+use Rattle.chassis.specs.Looking.{number_in}
 
--- it has a port's number
-pub port_small : (test : ℕ → Bool) (n : ℕ) (f : Option ℕ) (p : ℕ) → n < 256 → f ≡ Some p → f ≡ first_in test 0 n → p < 256
-port_small test n f p small at found =
-    let here : Some p ≡ first_in test 0 n = cc in
-    omega (arith, (is_at test 0 n here).below)
+-- by its number it is the one that is named
+pub by_number : (r : Option PortNo) {f : Option ℕ} → number_in r ≡ f → unwrap_or r no_port ≡ found f
+by_number r e = same r ∙ ap found e
+  where
+    same : (r : Option PortNo) → unwrap_or r no_port ≡ found (number_in r)
+    same None = refl
+    same (Some p) = refl

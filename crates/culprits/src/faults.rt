@@ -3,12 +3,12 @@ ghost use Rattle.std.specs.Prelude.{◌≡◌};
 ghost use Rattle.chassis.specs.Check.{at_fault};
 ghost use Rattle.claims.specs.Over.{chassis_in};
 
-use patches::PatchedPicture;
 use crate::pairs::clashes_with;
 use crate::ports::strays_at;
 use crate::taken::taken_at;
 use chassis::Fault;
 use ids::{PortNo, Target};
+use patches::PatchedPicture;
 
 // Whether port p is at fault at a target: it shares it with one of n ports, lets it stray, or claims what its parent takes.
 pub fn at_fault(over: &PatchedPicture, fault: Fault, t: Target, p: PortNo) -> bool

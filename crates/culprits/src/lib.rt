@@ -9,4 +9,5 @@ mod taken;
 
 pub use faults::at_fault;
 pub use pairs::{Pair, first_pair};
-pub use ports::{PortFault, lowest, lowest_port};
+pub use ports::{lowest_port, own_id_lost, strays_at};
+pub use taken::taken_at;

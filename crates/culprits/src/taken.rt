@@ -3,10 +3,10 @@ ghost use Rattle.std.specs.Prelude.{◌≡◌};
 ghost use Rattle.chassis.specs.Check.{takes, taken_at};
 ghost use Rattle.claims.specs.Over.{chassis_in};
 
-use patches::PatchedPicture;
-use chassis::{Conversion, ROOT_PORT};
+use chassis::{Conversion, Kind};
 use claims::{claims, conversion};
 use ids::{PortNo, Target};
+use patches::PatchedPicture;
 use registers::{kind_at, parent_at};
 
 // Whether a conversion takes a request: it is Type 0 or Unsupported Request, and not Type 1 that passes.
@@ -26,7 +26,8 @@ fn takes(made: Conversion) -> bool
 pub fn taken_at(over: &PatchedPicture, t: Target, p: PortNo) -> bool
     ensures { result ≡ taken_at (chassis_in over.now) t p.0 }
 {
-    (kind_at(over.picture.bytes, p) != ROOT_PORT)
+    let s = over.picture.bytes;
+    (kind_at(s, p) != Ok(Kind::Root))
         & claims(over, p, t)
-        & takes(conversion(over, parent_at(over.picture.bytes, p), t))
+        & takes(conversion(over, parent_at(s, p), t))
 }
