@@ -43,7 +43,7 @@ pub fn memory_of(base: u16, limit: u16) -> Bridge
 pub fn entry_of(f: Fpb, m: Mechanism, t: u64) -> Option<u64>
     ensures { result ≡ entry_of (settings_of f m) t }
 {
-    vectors::entry(registers::settings(f, m), t)
+    registers::settings(f, m).entry(t)
 }
 
 // A picture of a root port, an upstream port, and a downstream port, number 2, with buses 3 to 5; the low byte of that

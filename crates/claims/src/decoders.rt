@@ -4,6 +4,7 @@ ghost use Rattle.claims.specs.Decoders.{bus_claims, vector_claims, base_of, uppe
 
 use ids::Rid;
 use registers::{Bridge, Fpb, Mechanism, enabled, settings};
+use vectors::Vector;
 
 // The video range.
 pub const VIDEO_FIRST: u64 = 0xA0000;
@@ -24,7 +25,11 @@ pub fn bus_claims(b: Bridge, rid: Rid) -> bool
 pub fn vector_claims(f: Fpb, m: Mechanism, v: &[u8], t: u64) -> bool
     ensures { result ≡ vector_claims f m v.now t }
 {
-    enabled(f, m) & vectors::hit(v, settings(f, m), t)
+    let vector = Vector {
+        bytes: v,
+        settings: settings(f, m),
+    };
+    enabled(f, m) & vector.hits(t)
 }
 
 // Address bits 31:20 of a base or limit register, the bits below them zero.

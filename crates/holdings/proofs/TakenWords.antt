@@ -35,6 +35,8 @@ use Rattle.spans.specs.Grids.{hit_in}
 use Rattle.spans.specs.Reaches.{on_ranges, on_grids, reaches}
 use Rattle.holdings.specs.Holdings.{bus_range, one_of}
 use Rattle.holdings.specs.Taken.{unit_range, whole_bus, secondary_range, secondary_if, secondary_bus, common, all_ids, taken_reach, looked_at}
+use Rattle.holdings.specs.declared.Looked.{Looked}
+use Rattle.holdings.specs.declared.Looked.TheVariants.{Taken, Held}
 use Rattle.holdings.proofs.Words.{range_in, grid_in, bus_between, bus_in, address_words, reach_words}
 
 -- n + 1 units end with the last ID of the unit n
@@ -150,16 +152,17 @@ module _ (p : Port) (vector : Mechanism → List ℕ) where
       (hits (vector Rid) (settings_of p.fpb Rid) t))
 
 -- what is looked at of a picture's port with these vectors, in either space
-module _ (s : List ℕ) (vector : ℕ → Mechanism → List ℕ) (n : ℕ) (own claims : Bool) where
+module _ (s : List ℕ) (vector : ℕ → Mechanism → List ℕ) (n : ℕ) where
   abbrev c : Chassis
   c = without_video (chassis_with s vector)
 
-  abbrev has_at : Bool → Target → Bool
-  has_at taken t = cond taken (takes_at c t n) (own && is_own c t n || claims && c.claims n t)
+  abbrev has_at : Looked → Target → Bool
+  has_at Taken t = takes_at c t n
+  has_at (Held own claims) t = own && is_own c t n || claims && c.claims n t
 
-  pub looked_words : (space : Space) (taken : Bool) (t : ℕ) → t < space_size space
-      → reaches (looked_at (port_at s n) space own claims taken) (vector n (one_of space)) (vector n High) t ≡ has_at taken (target_in space t)
-  looked_words Ids true t l = taken_words (port_at s n) (vector n) t l
-  looked_words Addresses true t l = address_words (port_at s n) (vector n) own false t l
-  looked_words Ids false t l = reach_words s vector n Ids own claims t l
-  looked_words Addresses false t l = reach_words s vector n Addresses own claims t l
+  pub looked_words : (space : Space) (what : Looked) (t : ℕ) → t < space_size space
+      → reaches (looked_at (port_at s n) space what) (vector n (one_of space)) (vector n High) t ≡ has_at what (target_in space t)
+  looked_words Ids Taken t l = taken_words (port_at s n) (vector n) t l
+  looked_words Addresses Taken t l = address_words (port_at s n) (vector n) false false t l
+  looked_words Ids (Held own claims) t l = reach_words s vector n Ids own claims t l
+  looked_words Addresses (Held own claims) t l = reach_words s vector n Addresses own claims t l

@@ -46,6 +46,7 @@ abbrev pub taken_in : Port → Space → Reach
 taken_in p Ids = taken_reach p
 taken_in p Addresses = address_reach p false
 
--- what is looked at of a port: what it takes, where `taken`; else its own ID and what it claims, where those are
-abbrev pub looked_at : Port → Space → Bool → Bool → Bool → Reach
-looked_at p space own claims taken = cond taken (taken_in p space) (reach_of p space own claims)
+-- what is looked at of a port: what it takes; or its own ID and what it claims, where those are
+abbrev pub looked_at : Port → Space → Looked → Reach
+looked_at p space Taken = taken_in p space
+looked_at p space (Held own claims) = reach_of p space own claims

@@ -6,7 +6,6 @@ mod taken;
 
 ghost use Rattle.std.specs.Prelude.{◌≡◌};
 ghost use Rattle.registers.specs.Record.{port_at};
-ghost use Rattle.spans.specs.Reaches.{fits};
 ghost use Rattle.holdings.specs.Holdings.{EndsIn};
 ghost use Rattle.holdings.specs.Taken.{looked_at};
 
@@ -16,15 +15,21 @@ use registers::port_at;
 use spans::Reach;
 use taken::taken_in;
 
-// What is looked at of port p in a space: the IDs that it takes, where `taken`; else its own ID, where `own`, and what it claims,
-// where `claims`.
-pub fn reach_at(s: &[u8], p: PortNo, space: Space, own: bool, claims: bool, taken: bool) -> Reach
-    ensures value { result ≡ looked_at (port_at s.now p.0) space own claims taken }
-    ensures fits { fits result × EndsIn space result }
+// What of a port is looked at: the IDs that it takes, or what it holds: its own ID, where `own`, and what it claims, where `claims`.
+#[derive(Clone, Copy)]
+pub enum Looked {
+    Taken,
+    Held { own: bool, claims: bool },
+}
+
+// What is looked at of port p in a space.
+pub fn reach_at(s: &[u8], p: PortNo, space: Space, what: Looked) -> Reach
+    ensures value { result ≡ looked_at (port_at s.now p.0) space what }
+    ensures ends_in { EndsIn space result }
 {
     let port = port_at(s, p);
-    if taken {
-        return taken_in(port, space);
+    match what {
+        Looked::Taken => taken_in(port, space),
+        Looked::Held { own, claims } => reach(port, space, own, claims),
     }
-    reach(port, space, own, claims)
 }

@@ -1,7 +1,6 @@
 // The reach of a port in one space: its decoders but vga, as ranges and grids.
 ghost use Rattle.std.specs.Prelude.{◌≡◌, ◌<◌, ◌≤◌, ◌^◌};
 ghost use Rattle.ids.specs.declared.Space.TheVariants.{Ids, Addresses};
-ghost use Rattle.spans.specs.Reaches.{fits};
 ghost use Rattle.holdings.specs.Holdings.{range_if, grid_if, bus_range, memory_range, prefetchable_range, id_reach, address_reach, reach_of, one_of, EndsIn};
 
 use claims::{base_of, memory_space_enabled, upper_of};
@@ -28,7 +27,7 @@ pub fn range_if(on: bool, lo: u64, hi: u64) -> Range
 #[tactic(auto, unfolding(crate::specs::Holdings::grid_if))]
 pub fn grid_if(on: bool, f: Fpb, m: Mechanism, lo: u64, hi: u64) -> Grid
     ensures value { result ≡ grid_if on f m lo hi }
-    ensures scale_bound { (result.settings.scale < 64) × (result.within.hi ≤ hi) }
+    ensures hi_le_hi { result.within.hi ≤ hi }
 {
     Grid {
         within: range_if(on & enabled(f, m), lo, hi),
@@ -77,7 +76,7 @@ fn prefetchable_range(on: bool, b: Bridge) -> Range
 #[tactic(auto, unfolding(crate::specs::Holdings::id_reach))]
 fn id_reach(p: Port, own: bool, claims: bool) -> Reach
     ensures value { result ≡ id_reach p own claims }
-    ensures fits { fits result × EndsIn Ids result }
+    ensures ends_in { EndsIn Ids result }
 {
     let b = p.bridge;
     let f = p.fpb;
@@ -94,7 +93,7 @@ fn id_reach(p: Port, own: bool, claims: bool) -> Reach
 #[tactic(auto, unfolding(crate::specs::Holdings::address_reach))]
 pub fn address_reach(p: Port, on: bool) -> Reach
     ensures value { result ≡ address_reach p on }
-    ensures fits { fits result × EndsIn Addresses result }
+    ensures ends_in { EndsIn Addresses result }
 {
     let b = p.bridge;
     let f = p.fpb;
@@ -109,7 +108,7 @@ pub fn address_reach(p: Port, on: bool) -> Reach
 // What a port reaches in a space: by its own ID, where `own`, and by what it claims, where `claims`.
 pub fn reach(p: Port, space: Space, own: bool, claims: bool) -> Reach
     ensures value { result ≡ reach_of p space own claims }
-    ensures fits { fits result × EndsIn space result }
+    ensures ends_in { EndsIn space result }
 {
     match space {
         Space::Ids => id_reach(p, own, claims),

@@ -1,7 +1,6 @@
 // The IDs that a port takes: those for which it makes a configuration request Type 0 or refuses it, and does not pass Type 1.
 ghost use Rattle.std.specs.Prelude.{◌≡◌, ◌<◌, ◌≤◌, ◌^◌};
 ghost use Rattle.ids.specs.declared.Space.TheVariants.{Ids};
-ghost use Rattle.spans.specs.Reaches.{fits};
 ghost use Rattle.holdings.specs.Holdings.{EndsIn};
 ghost use Rattle.holdings.specs.Taken.{secondary_range, secondary_if, secondary_bus, common, taken_reach, taken_in};
 
@@ -12,7 +11,7 @@ use ids::Space;
 use registers::{Bridge, Mechanism, Port, enabled, settings, with_ari};
 use spans::Reach;
 use spans::grids::Grid;
-use spans::ranges::{Range, later};
+use spans::ranges::Range;
 
 // The IDs of the Secondary range: units of an upstream port, a bus with ARI, else one unit.
 #[tactic(auto, using(crate::proofs::TakenWords::last_id), unfolding(crate::specs::Taken::secondary_range))]
@@ -67,18 +66,17 @@ fn common(a: Range, b: Range) -> Range
     ensures value { result ≡ common a b }
     ensures hi_le_hi { result.hi ≤ b.hi }
 {
-    let lo = later(a.lo, b.lo);
-    if a.hi <= b.hi {
-        return Range { lo, hi: a.hi };
+    Range {
+        lo: a.lo.max(b.lo),
+        hi: a.hi.min(b.hi),
     }
-    Range { lo, hi: b.hi }
 }
 
 // What a port takes: of its Secondary range what it claims by its bus pair or its RID vector, and its bus Secondary.
 #[tactic(auto, unfolding(crate::specs::Taken::taken_reach))]
 fn taken(p: Port) -> Reach
     ensures value { result ≡ taken_reach p }
-    ensures fits { fits result × EndsIn Ids result }
+    ensures ends_in { EndsIn Ids result }
 {
     let b = p.bridge;
     let f = p.fpb;
@@ -98,7 +96,7 @@ fn taken(p: Port) -> Reach
 // What a port takes in a space; no address is taken.
 pub fn taken_in(p: Port, space: Space) -> Reach
     ensures value { result ≡ taken_in p space }
-    ensures fits { fits result × EndsIn space result }
+    ensures ends_in { EndsIn space result }
 {
     match space {
         Space::Ids => taken(p),

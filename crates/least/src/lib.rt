@@ -8,12 +8,9 @@ ghost use Rattle.least.specs.Least.{soonest, is_by};
 pub fn sooner(a: Option<u64>, b: Option<u64>) -> Option<u64>
     ensures { result ≡ soonest a b }
 {
-    match a {
-        None => b,
-        Some(i) => match b {
-            None => Some(i),
-            Some(j) => { if i <= j { Some(i) } else { Some(j) } }
-        },
+    match (a, b) {
+        (Some(i), Some(j)) => Some(i.min(j)),
+        _ => a.or(b),
     }
 }
 
@@ -22,8 +19,5 @@ pub fn sooner(a: Option<u64>, b: Option<u64>) -> Option<u64>
 pub fn is_by(found: Option<u64>, n: u64) -> bool
     ensures { result ≡ is_by found n }
 {
-    match found {
-        Some(i) => i <= n,
-        None => false,
-    }
+    found.is_some_and(|i| i <= n)
 }

@@ -1,13 +1,9 @@
 -- What one port reaches in one space.
-use Rattle.std.specs.Prelude.{ℕ, ◌<◌, ◌^◌, Bool, not, ◌||◌, List, Option}
+use Rattle.std.specs.Prelude.{ℕ, ◌^◌, Bool, not, ◌||◌, List, Option}
 use Rattle.least.specs.Least.{first_in}
 use Rattle.spans.specs.declared.Reach.{Reach}
 use Rattle.spans.specs.Ranges.{in_range, out_of, onward}
 use Rattle.spans.specs.Grids.{hit_in, missed_in}
-
--- an entry of either vector stands for at most 2^63 targets
-abbrev pub fits : Reach → Type 0
-fits d = (d.one.settings.scale < 64) × (d.other.settings.scale < 64)
 
 unfoldable pub on_ranges : Reach → ℕ → Bool
 on_ranges d t = in_range d.first t || in_range d.second t

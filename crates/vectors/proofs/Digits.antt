@@ -9,7 +9,7 @@ use native.Mathlib.Numerals.{one-add}
 use native.Mathlib.Omega.{arith}
 use lib.Dec.{eqb}
 use lib.Count.{count_trailing_zeros, under}
-use lib.Pow.{shr-shr, shr_lt, high, pow-add, pow_pos}
+use lib.Pow.{shr-shr, shr_lt, high, pow-add}
 use Rattle.least.proofs.Laws.{NoneIn, LeastAt, none_part}
 
 -- digit k
@@ -66,16 +66,6 @@ bit_not (suc w) (suc k) x h l =
 pub record Digits (p : ℕ → Bool) (i n x : ℕ) : Type 0 where
   pub most : x < 2 ^ n
   pub at : (k : ℕ) → k < n → bit x k ≡ p (i + k)
-
-pub digits_as : {p q : ℕ → Bool} {i n x : ℕ} → ((j : ℕ) → p j ≡ q j) → Digits p i n x → Digits q i n x
-digits_as {i = i} e d = record { most = d.most; at = λ k l. d.at k l ∙ e (i + k) }
-
-pub digits_not : {p q : ℕ → Bool} {i n x : ℕ} → ((j : ℕ) → not (p j) ≡ q j) → Digits p i n x → Digits q i n (2 ^ n - 1 - x)
-digits_not {i = i} {n} {x} e d =
-    record {
-      most = omega (arith, pow_pos n);
-      at = λ k l. bit_not n k x d.most l ∙ ap not (d.at k l) ∙ e (i + k);
-    }
 
 -- the digits from s on
 pub digits_from : {p : ℕ → Bool} {i n x : ℕ} (s : ℕ) → s ≤ n → Digits p i n x → Digits p (i + s) (n - s) (x / 2 ^ s)

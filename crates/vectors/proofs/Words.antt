@@ -1,18 +1,18 @@
 -- What eight bytes of a vector, read as one number, say of its entries.
 -- Assumes nothing.
-use Prim.Native.Nat.{ℕ, ◌+◌, ◌-◌, ◌*◌, ◌/◌, ◌%◌, ◌^◌, ◌<◌}
-use mathlib.Core.Path.{◌≡◌, refl}
+use Prim.Native.Nat.{ℕ, ◌+◌, ◌*◌, ◌/◌, ◌%◌, ◌<◌}
+use mathlib.Core.Path.{◌≡◌, refl, ap, ◌∙◌}
 use mathlib.Core.Bool.{Bool, true, false, not, beq}
 use mathlib.Core.List.{List}
 use native.Mathlib.Omega.{arith}
 use lib.ListN.{get_or}
 use Rattle.lent.specs.Lent.{u16_at, u32_at}
 use Rattle.vectors.specs.Vectors.{is_set, entry_is}
-use Rattle.vectors.proofs.Digits.{Digits, digits_as, digits_not, digits_two}
+use Rattle.vectors.proofs.Digits.{bit, Digits, digits_two}
 
 -- one byte, and two, four and eight, whatever the number is that has been read
 module _ (v : List ℕ) (bytes : (j : ℕ) → get_or v j 0 < 256) where
-  pub of_byte : (j : ℕ) {x : ℕ} → x ≡ get_or v j 0 → Digits (is_set v) (8 * j) 8 x
+  of_byte : (j : ℕ) {x : ℕ} → x ≡ get_or v j 0 → Digits (is_set v) (8 * j) 8 x
   unfolding is_set
   of_byte j {x} e =
       record {
@@ -36,20 +36,17 @@ module _ (v : List ℕ) (bytes : (j : ℕ) → get_or v j 0 < 256) where
       let bits : 8 * (8 * j) ≡ 64 * j = omega arith in
       rw e (rw bits at (digits_two 32 (omega arith) (of_four (8 * j)) (of_four (8 * j + 4))))
 
--- The entries that are set are a number's digits, and the clear ones those of `!` of it.
-pub set_wanted : (v : List ℕ) {i n x : ℕ} {want : Bool} → want ≡ true → Digits (is_set v) i n x → Digits (entry_is v want) i n x
-unfolding entry_is
-set_wanted v {want = want} w d = digits_as (λ j. go (is_set v j)) d
-  where
-    go : (b : Bool) → b ≡ beq b want
-    go true = rw w
-    go false = rw w
+-- a digit as it is, or turned
+pub as_wanted : (b : Bool) {want : Bool} → want ≡ true → b ≡ beq b want
+as_wanted true e = rw e
+as_wanted false e = rw e
 
-pub clear_wanted : (v : List ℕ) {i n x : ℕ} {want : Bool} → want ≡ false → Digits (is_set v) i n x
-    → Digits (entry_is v want) i n (2 ^ n - 1 - x)
+pub not_wanted : (b : Bool) {want : Bool} → want ≡ false → not b ≡ beq b want
+not_wanted true e = rw e
+not_wanted false e = rw e
+
+-- the entries that are as wanted are the digits of a word that are
+pub entries_wanted : (v : List ℕ) (want : Bool) (i w x : ℕ) → ((k : ℕ) → k < 64 → bit w k ≡ is_set v (i + k))
+    → ((k : ℕ) → k < 64 → bit x k ≡ beq (bit w k) want) → (k : ℕ) → k < 64 → bit x k ≡ entry_is v want (i + k)
 unfolding entry_is
-clear_wanted v {want = want} w d = digits_not (λ j. go (is_set v j)) d
-  where
-    go : (b : Bool) → not b ≡ beq b want
-    go true = rw w
-    go false = rw w
+entries_wanted v want i w x d e k l = e k l ∙ ap (λ (b : Bool). beq b want) (d k l)

@@ -5,11 +5,12 @@
 mod entries;
 mod looks;
 
-ghost use Rattle.std.specs.Prelude.{◌≡◌, ◌<◌};
+ghost use Rattle.std.specs.Prelude.{◌≡◌};
 ghost use Rattle.least.specs.Least.{first_in};
-ghost use Rattle.vectors.specs.Vectors.{entry_of, is_set, entry_is, hits};
+ghost use Rattle.vectors.specs.Vectors.{is_set, entry_is};
 
-pub use entries::word;
+pub use entries::{wanted, word};
+use std::marker::Model;
 
 // A vector's size in entries, the target where entry 0 begins, and its granularity: an entry stands for 2^scale targets.
 #[derive(Clone, Copy)]
@@ -19,17 +20,51 @@ pub struct Settings {
     pub scale: u32,
 }
 
-// The entry that applies to a target.
-#[tactic(auto, unfolding(crate::specs::Vectors::entry_of))]
-pub fn entry(g: Settings, t: u64) -> Option<u64>
-    requires { g.scale < 64 }
-    ensures { result ≡ entry_of g t }
-{
-    if t < g.start {
-        return None;
+impl Model for Settings {
+    ghost use Rattle.std.specs.Prelude.{◌<◌};
+    ghost use Rattle.vectors.specs.Shape.{Shape};
+
+    ghost Value = { Shape };
+
+    ghost view = { λ g. record { size = g.size; start = g.start; scale = g.scale } };
+
+    ghost inverse = { λ g. record { size = g.size; start = g.start; scale = g.scale } };
+
+    ghost invariant = { λ g. g.scale < 64 };
+}
+
+impl Settings {
+    ghost use Rattle.vectors.specs.Vectors.{entry_of};
+
+    // The entry that applies to a target.
+    #[tactic(auto, unfolding(crate::specs::Vectors::entry_of))]
+    pub fn entry(self, t: u64) -> Option<u64>
+        ensures { result ≡ entry_of self t }
+    {
+        let i = t.checked_sub(self.start)? >> self.scale;
+        (i < self.size).then_some(i)
     }
-    let i = (t - g.start) >> g.scale;
-    if i < g.size { Some(i) } else { None }
+}
+
+// A vector: its bytes, and the settings that say where its entries lie.
+#[derive(Clone, Copy)]
+pub struct Vector<'a> {
+    pub bytes: &'a [u8],
+    pub settings: Settings,
+}
+
+impl Vector<'_> {
+    ghost use Rattle.vectors.specs.Vectors.{hits};
+
+    // Whether the entry that applies to a target is set.
+    #[tactic(auto, using(crate::proofs::Laws::hits_entry, crate::proofs::Laws::misses_entry))]
+    pub fn hits(&self, t: u64) -> bool
+        ensures { result ≡ hits self.now.bytes.now self.now.settings t }
+    {
+        self.settings
+            .entry(t)
+            .is_some_and(|i| is_set(self.bytes, i))
+    }
 }
 
 // Whether entry i is set; an entry past the vector's bytes is clear.
@@ -40,21 +75,8 @@ pub fn is_set(v: &[u8], i: u64) -> bool
     (lent::u8_at(v, (i / 8) as usize) >> (i % 8)) % 2 == 1
 }
 
-// Whether the entry that applies to a target is set.
-#[tactic(auto, using(crate::proofs::Laws::hits_entry, crate::proofs::Laws::misses_entry))]
-pub fn hit(v: &[u8], g: Settings, t: u64) -> bool
-    requires { g.scale < 64 }
-    ensures { result ≡ hits v.now g t }
-{
-    match entry(g, t) {
-        Some(i) => is_set(v, i),
-        None => false,
-    }
-}
-
 // The next entry from `from` on, below the size, that is set, or, where that is wanted, clear. Bytes that hold none such are
 // stepped over.
-#[tactic(auto, using(least::proofs::Laws::at_is, least::proofs::Laws::none_empty, least::proofs::Laws::none_is, least::proofs::Laws::none_join, least::proofs::Laws::none_part, crate::proofs::Digits::sees_least, crate::proofs::Digits::sees_none))]
 pub fn next_entry(v: &[u8], want: bool, from: u64, size: u64) -> Option<u64>
     ensures { result ≡ first_in (entry_is v.now want) from size }
 {
@@ -62,11 +84,8 @@ pub fn next_entry(v: &[u8], want: bool, from: u64, size: u64) -> Option<u64>
     loop {
         let seen = looks::look(v, want, i);
         if seen.wanted != 0 {
-            let found = i + u64::trailing_zeros(seen.wanted) as u64;
-            if size <= found {
-                return None;
-            }
-            return Some(found);
+            let found = i + seen.wanted.trailing_zeros() as u64;
+            return if found < size { Some(found) } else { None };
         }
         if size <= seen.last {
             return None;

@@ -12,3 +12,5 @@ pub use Rattle.claims.specs.Conversion.{secondary_start, num_sec_dev}
 pub use Rattle.spans.specs.declared.Reach.{Reach}
 pub use Rattle.spans.specs.declared.ranges.Range.{Range}
 pub use Rattle.holdings.specs.Holdings.{range_if, grid_if, bus_range, address_reach, reach_of}
+pub use Rattle.holdings.specs.declared.Looked.{Looked}
+pub use Rattle.holdings.specs.declared.Looked.TheVariants.{Taken, Held}

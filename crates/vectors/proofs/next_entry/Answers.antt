@@ -10,14 +10,14 @@ overflow_add-found c =
     let found = sees_least (entry_is _ _) _ _ (omega arith) (seen.i_le_last, seen.by_index) in
     omega (arith, found.below)
 
-pub returns-then-size-found : goal.returns-then-size-found
-returns-then-size-found c =
+pub returns-else-found-size : goal.returns-else-found-size
+returns-else-found-size c =
     let seen = c.look-seen.ensures in
     let found = sees_least (entry_is _ _) _ _ (omega arith) (seen.i_le_last, seen.by_index) in
     none_is (none_part (le_refl _) (omega arith) (none_join c.loop-seen.invariant.1 found.first))
 
-pub returns-then-seen-ne0 : goal.returns-then-seen-ne0
-returns-then-seen-ne0 c =
+pub returns-then-found-size : goal.returns-then-found-size
+returns-then-found-size c =
     let seen = c.look-seen.ensures in
     let found = sees_least (entry_is _ _) _ _ (omega arith) (seen.i_le_last, seen.by_index) in
     at_is (record { from = omega arith; below = omega arith; holds = found.holds; first = none_join c.loop-seen.invariant.1 found.first })
@@ -27,3 +27,9 @@ returns-then-size-seen c =
     let seen = c.look-seen.ensures in
     let none = sees_none (entry_is _ _) _ _ (omega arith) (seen.i_le_last, seen.by_index) in
     none_is (none_part (le_refl _) (omega arith) (none_join c.loop-seen.invariant.1 none))
+
+pub loop-seen-preserved : goal.loop-seen-preserved
+loop-seen-preserved c =
+    let seen = c.look-seen.ensures in
+    let none = sees_none (entry_is _ _) _ _ (omega arith) (seen.i_le_last, seen.by_index) in
+    (omega arith, none_join c.loop-seen.invariant.1 none)

@@ -2,10 +2,10 @@
 use Rattle.least.proofs.Laws.{NoneIn}
 use Rattle.spans.specs.Reaches.{misses}
 use Rattle.std.proofs.Common.{◌-◌, ◌^◌, ◌≤◌}
-use Rattle.spans.proofs.next_unreached.Given as goal
+use Rattle.spans.proofs.Reached.next_unreached.Given as goal
 
 abbrev pub invariant-loop-k : goal.invariant-loop-k
-invariant-loop-k l = (l.from ≤ l.i) × NoneIn (misses l.d l.v l.w) l.from l.i
+invariant-loop-k l = (l.from ≤ l.i) × NoneIn (misses l.self.reach l.self.one.now l.self.other.now) l.from l.i
 
 abbrev pub decreases-loop-k : goal.decreases-loop-k
 decreases-loop-k l = 2 ^ 64 - l.i
