@@ -5,11 +5,11 @@ ghost use Rattle.chassis.specs.Check.{found, strays_at, own_id_lost};
 ghost use Rattle.chassis.specs.Looking.{Tells};
 ghost use Rattle.claims.specs.Over.{chassis_in};
 
-use chassis::{Conversion, Kind};
+use chassis::Conversion;
 use claims::{claims, conversion, holds};
 use ids::{PortNo, Target};
 use patches::PatchedPicture;
-use registers::{kind_at, own_id_at, parent_at};
+use registers::{is_root_port, own_id_at, parent_at};
 use trees::Picture;
 
 // Whether port p is no root port and holds a target that its parent does not claim.
@@ -18,7 +18,7 @@ pub fn strays_at(over: &PatchedPicture, t: Target, p: PortNo) -> bool
     ensures { result ≡ strays_at (chassis_in over.now) t p.0 }
 {
     let s = over.picture.bytes;
-    (kind_at(s, p) != Ok(Kind::Root)) & holds(over, p, t) & !claims(over, parent_at(s, p), t)
+    !is_root_port(s, p) & holds(over, p, t) & !claims(over, parent_at(s, p), t)
 }
 
 // Whether port p is no root port and its parent does not claim its own ID and convert it to Type 0.
@@ -29,7 +29,7 @@ pub fn own_id_lost(over: &PatchedPicture, p: PortNo) -> bool
     let s = over.picture.bytes;
     let parent = parent_at(s, p);
     let own = Target::Id(own_id_at(s, p));
-    (kind_at(s, p) != Ok(Kind::Root))
+    !is_root_port(s, p)
         & !(claims(over, parent, own) & (conversion(over, parent, own) == Conversion::Type0))
 }
 

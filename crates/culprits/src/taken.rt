@@ -3,11 +3,11 @@ ghost use Rattle.std.specs.Prelude.{◌≡◌};
 ghost use Rattle.chassis.specs.Check.{takes, taken_at};
 ghost use Rattle.claims.specs.Over.{chassis_in};
 
-use chassis::{Conversion, Kind};
+use chassis::Conversion;
 use claims::{claims, conversion};
 use ids::{PortNo, Target};
 use patches::PatchedPicture;
-use registers::{kind_at, parent_at};
+use registers::{is_root_port, parent_at};
 
 // Whether a conversion takes a request: it is Type 0 or Unsupported Request, and not Type 1 that passes.
 fn takes(made: Conversion) -> bool
@@ -27,7 +27,7 @@ pub fn taken_at(over: &PatchedPicture, t: Target, p: PortNo) -> bool
     ensures { result ≡ taken_at (chassis_in over.now) t p.0 }
 {
     let s = over.picture.bytes;
-    (kind_at(s, p) != Ok(Kind::Root))
+    !is_root_port(s, p)
         & claims(over, p, t)
         & takes(conversion(over, parent_at(s, p), t))
 }

@@ -5,7 +5,7 @@ ghost use Rattle.holdings.specs.Holdings.{EndsIn};
 ghost use Rattle.holdings.specs.Taken.{secondary_range, secondary_if, secondary_bus, common, taken_reach, taken_in};
 
 use crate::reaches::{address_reach, bus_range, grid_if, range_if};
-use chassis::UPSTREAM;
+use chassis::Kind;
 use claims::{secondary_start, secondary_units};
 use ids::Space;
 use registers::{Bridge, Mechanism, Port, enabled, settings, with_ari};
@@ -20,7 +20,7 @@ fn secondary_range(p: Port) -> Range
 {
     let f = p.fpb;
     let start = secondary_start(f).0 as u64;
-    if p.kind == UPSTREAM {
+    if Kind::try_from(p.kind) == Ok(Kind::Upstream) {
         return Range {
             lo: start * 8,
             hi: (start + secondary_units(f) as u64) * 8 - 1,

@@ -8,7 +8,7 @@ use Rattle.ids.specs.declared.Space.{Space}
 use Rattle.ids.specs.declared.Space.TheVariants.{Ids, Addresses}
 use Rattle.least.specs.Least.{first_in}
 use Rattle.least.proofs.Laws.{first_below, first_agree}
-use Rattle.chassis.specs.Chassis.{space_size}
+use Rattle.chassis.specs.Chassis.{space_size, target_in}
 use Rattle.chassis.specs.Check.{test_in, least_target}
 use Rattle.registers.specs.declared.Mechanism.{Mechanism}
 use Rattle.registers.specs.declared.Mechanism.TheVariants.{High}
@@ -22,8 +22,10 @@ use Rattle.holdings.specs.Holdings.{one_of, EndsIn}
 use Rattle.holdings.specs.Taken.{looked_at}
 use Rattle.holdings.proofs.Words.{none_past}
 use Rattle.holdings.proofs.TakenWords.{looked_words}
+use Rattle.holdings.specs.declared.Looked.{Looked}
+use Rattle.holdings.specs.declared.Looked.TheVariants.{Taken, Held}
 use Rattle.overlaps.specs.declared.meetings.Holding.{Holding}
-use Rattle.overlaps.specs.Overlaps.{has, meeting}
+use Rattle.overlaps.specs.Overlaps.{looked, has, meeting}
 
 space_size_lem : (space : Space) → space_size space ≤ 2 ^ 64
 space_size_lem Ids = omega arith
@@ -31,7 +33,7 @@ space_size_lem Addresses = omega arith
 
 -- the reach of what is looked at of a port
 abbrev reach_for : List ℕ → Space → Holding → Reach
-reach_for s space h = looked_at (port_at s h.port.0) space h.own h.claims h.taken
+reach_for s space h = looked_at (port_at s h.port.0) space h.what
 
 module _ (s : List ℕ) (vector : ℕ → Mechanism → List ℕ) (space : Space) where
   abbrev one : Holding → List ℕ
@@ -42,7 +44,11 @@ module _ (s : List ℕ) (vector : ℕ → Mechanism → List ℕ) (space : Space
 
   has_words : (h : Holding) (t : ℕ) → t < space_size space → reaches (reach_for s space h) (one h) (other h) t ≡ test_in (has (without_video (chassis_with s vector)) h) space t
   unfolding has test_in
-  has_words h t l = looked_words s vector h.port.0 h.own h.claims space h.taken t l
+  has_words h t l = by_what h.what
+    where
+      by_what : (what : Looked) → reaches (looked_at (port_at s h.port.0) space what) (one h) (other h) t ≡ looked (without_video (chassis_with s vector)) h.port.0 what (target_in space t)
+      by_what Taken = looked_words s vector h.port.0 space Taken t l
+      by_what (Held own claims) = looked_words s vector h.port.0 space (Held own claims) t l
 
   module _ (a b : Holding) (want : Bool) where
     pub meets_first : {d e : Reach} → d ≡ reach_for s space a → e ≡ reach_for s space b → EndsIn space d

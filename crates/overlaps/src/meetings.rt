@@ -2,26 +2,46 @@
 ghost use Rattle.std.specs.Prelude.{◌≡◌};
 ghost use Rattle.least.specs.Least.{soonest};
 ghost use Rattle.chassis.specs.Check.{least_target};
+ghost use Rattle.registers.specs.Record.{port_at};
+ghost use Rattle.registers.specs.declared.Mechanism.TheVariants.{High};
+ghost use Rattle.patches.specs.Halves.{vector_over};
+ghost use Rattle.holdings.specs.Holdings.{one_of, EndsIn};
+ghost use Rattle.holdings.specs.Taken.{looked_at};
 ghost use Rattle.claims.specs.Beside.{beside_in};
 ghost use Rattle.overlaps.specs.Overlaps.{meeting};
 
-use holdings::{one_of, reach_at};
+use holdings::{Looked, one_of, reach_at};
 use ids::{PortNo, Space};
 use patches::PatchedPicture;
 use registers::Mechanism;
+use spans::Reached;
 
-// What of a port is looked at: the IDs that it takes, where `taken`; else its own ID, its claims, or both.
+// A port, and what of it is looked at.
 #[derive(Clone, Copy)]
 pub struct Holding {
     pub port: PortNo,
-    pub own: bool,
-    pub claims: bool,
-    pub taken: bool,
+    pub what: Looked,
+}
+
+// What that reaches in a space.
+fn reached<'a>(over: &PatchedPicture<'a>, space: Space, h: Holding) -> Reached<'a>
+    ensures reach { result.reach ≡ looked_at (port_at over.now.picture.bytes.now h.port.0) space h.what }
+    ensures ends_in { EndsIn space result.reach }
+    ensures one { result.one.now ≡ vector_over over.now.picture.bytes.now over.now.patch.now h.port.0 (one_of space) }
+    ensures other { result.other.now ≡ vector_over over.now.picture.bytes.now over.now.patch.now h.port.0 High }
+{
+    Reached {
+        reach: reach_at(over.picture.bytes, h.port, space, h.what),
+        one: over.vector(h.port, one_of(space)),
+        other: over.vector(h.port, Mechanism::High),
+    }
 }
 
 // The least target of a space that a has, and that b has or does not, as is wanted; or the best so far, if that is lower.
 #[tactic(auto, using(crate::proofs::OfMeetings::meets_first))]
-pub fn least_meeting(over: &PatchedPicture, space: Space,
+pub fn least_meeting(
+    over: &PatchedPicture,
+    space: Space,
     a: Holding,
     b: Holding,
     want: bool,
@@ -29,16 +49,9 @@ pub fn least_meeting(over: &PatchedPicture, space: Space,
 ) -> Option<u64>
     ensures { result ≡ soonest best (least_target (meeting (beside_in over.now) a b want) space) }
 {
-    let m = one_of(space);
-    let p = a.port;
-    let q = b.port;
     search::least_both(
-        reach_at(over.picture.bytes, p, space, a.own, a.claims, a.taken),
-        over.vector(p, m),
-        over.vector(p, Mechanism::High),
-        reach_at(over.picture.bytes, q, space, b.own, b.claims, b.taken),
-        over.vector(q, m),
-        over.vector(q, Mechanism::High),
+        &reached(over, space, a),
+        &reached(over, space, b),
         want,
         best,
     )

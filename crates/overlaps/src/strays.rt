@@ -5,35 +5,35 @@ ghost use Rattle.chassis.specs.Check.{least_target};
 ghost use Rattle.claims.specs.Beside.{beside_in};
 ghost use Rattle.overlaps.specs.Overlaps.{faulty_to};
 
-use patches::PatchedPicture;
 use crate::meetings::{Holding, least_meeting};
-use chassis::ROOT_PORT;
+use holdings::Looked;
 use ids::{PortNo, Space};
-use registers::{kind_at, parent_at};
+use patches::PatchedPicture;
+use registers::{is_root_port, parent_at};
 
 // The best so far, after port p was tried; nothing of a root port strays.
 #[tactic(auto, using(crate::proofs::Folds::with_stray, crate::proofs::Folds::without_stray))]
-pub fn with_child(over: &PatchedPicture, space: Space,
-    p: PortNo,
-    best: Option<u64>,
-) -> Option<u64>
+pub fn with_child(over: &PatchedPicture, space: Space, p: PortNo, best: Option<u64>) -> Option<u64>
     requires { best ≡ least_target (faulty_to Stray (beside_in over.now) p.0) space }
     ensures { result ≡ least_target (faulty_to Stray (beside_in over.now) (p.0 + 1)) space }
 {
-    if kind_at(over.picture.bytes, p) == ROOT_PORT {
+    let s = over.picture.bytes;
+    if is_root_port(s, p) {
         return best;
     }
     let held = Holding {
         port: p,
-        own: true,
-        claims: true,
-        taken: false,
+        what: Looked::Held {
+            own: true,
+            claims: true,
+        },
     };
     let claimed = Holding {
-        port: parent_at(over.picture.bytes, p),
-        own: false,
-        claims: true,
-        taken: false,
+        port: parent_at(s, p),
+        what: Looked::Held {
+            own: false,
+            claims: true,
+        },
     };
     least_meeting(over, space, held, claimed, false, best)
 }

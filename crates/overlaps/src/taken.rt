@@ -5,35 +5,32 @@ ghost use Rattle.chassis.specs.Check.{least_target};
 ghost use Rattle.claims.specs.Beside.{beside_in};
 ghost use Rattle.overlaps.specs.Overlaps.{faulty_to};
 
-use patches::PatchedPicture;
 use crate::meetings::{Holding, least_meeting};
-use chassis::ROOT_PORT;
+use holdings::Looked;
 use ids::{PortNo, Space};
-use registers::{kind_at, parent_at};
+use patches::PatchedPicture;
+use registers::{is_root_port, parent_at};
 
 // The best so far, after port p was tried; nothing of a root port is taken. What its parent takes is little, so it comes first.
 #[tactic(auto, using(crate::proofs::Folds::with_taken, crate::proofs::Folds::without_taken))]
-pub fn with_taken(over: &PatchedPicture, space: Space,
-    p: PortNo,
-    best: Option<u64>,
-) -> Option<u64>
+pub fn with_taken(over: &PatchedPicture, space: Space, p: PortNo, best: Option<u64>) -> Option<u64>
     requires { best ≡ least_target (faulty_to Taken (beside_in over.now) p.0) space }
     ensures { result ≡ least_target (faulty_to Taken (beside_in over.now) (p.0 + 1)) space }
 {
-    if kind_at(over.picture.bytes, p) == ROOT_PORT {
+    let s = over.picture.bytes;
+    if is_root_port(s, p) {
         return best;
     }
     let taken = Holding {
-        port: parent_at(over.picture.bytes, p),
-        own: false,
-        claims: false,
-        taken: true,
+        port: parent_at(s, p),
+        what: Looked::Taken,
     };
     let claimed = Holding {
         port: p,
-        own: false,
-        claims: true,
-        taken: false,
+        what: Looked::Held {
+            own: false,
+            claims: true,
+        },
     };
     least_meeting(over, space, taken, claimed, true, best)
 }

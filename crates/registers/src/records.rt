@@ -1,6 +1,6 @@
 // Where a port's record starts, and some fields of it by a read each: those of the tree, the vectors' sizes and start, the enables.
-ghost use Rattle.std.specs.Prelude.{◌≡◌, ◌<◌, ◌≤◌, ◌^◌};
-ghost use Rattle.chassis.specs.Tree.{kind_of};
+ghost use Rattle.std.specs.Prelude.{eqb, ◌≡◌, ◌<◌, ◌≤◌, ◌^◌};
+ghost use Rattle.chassis.specs.Tree.{kind_of, root_port};
 ghost use Rattle.registers.specs.declared.Mechanism.{Mechanism};
 ghost use Rattle.registers.specs.Record.{edition_of, record_bytes, record_at, record_in, port_at};
 ghost use Rattle.registers.specs.Vectors.{vector_bytes};
@@ -51,6 +51,13 @@ pub fn kind_at(s: &[u8], p: PortNo) -> Result<Kind, UnknownKind>
     ensures { result ≡ kind_of (port_at s.now p.0).kind }
 {
     Kind::try_from(lent::u8_at(s, record_in(s, p)))
+}
+
+// Whether port p is a root port.
+pub fn is_root_port(s: &[u8], p: PortNo) -> bool
+    ensures { result ≡ eqb (port_at s.now p.0).kind root_port }
+{
+    kind_at(s, p) == Ok(Kind::Root)
 }
 
 // The port above, 255 for a root port.

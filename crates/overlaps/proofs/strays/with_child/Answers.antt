@@ -1,5 +1,6 @@
-use Rattle.std.proofs.Common.{◌∙◌}
-use Rattle.claims.specs.Beside.{chassis_beside}
+use Rattle.std.proofs.Common.{sym, ◌∙◌}
+use Rattle.std.proofs.lemmas.Bool.{eqb-false}
+use Rattle.claims.specs.Beside.{beside_in}
 use Rattle.overlaps.proofs.Folds.{with_stray}
 use Rattle.overlaps.proofs.strays.with_child.Goals as goal
 
@@ -7,5 +8,5 @@ pub returns : goal.returns
 returns c =
     c.least_meeting.ensures
     ∙ rw c.parent_at.ensures
-    (with_stray (chassis_beside c.args.s.now c.args.patch.now) c.args.space c.args.p.0 c.requires
-    (λ e. c.if-kind_at-eq-ROOT_PORT.false (c.kind_at.ensures ∙ e)))
+    (with_stray (beside_in c.args.over.now) c.args.space c.args.p.0 c.requires
+    (eqb-false _ _ (sym c.is_root_port.ensures ∙ c.if-is_root_port.false)))
