@@ -1,23 +1,29 @@
 -- A least target is one of its space, and rows looked at one after the other are the first that is not clear. Assumes nothing.
 use Prim.Native.Nat.{ℕ, ◌<◌}
-use mathlib.Core.Bool.{Bool, true}
+use mathlib.Core.Bool.{Bool}
 use mathlib.Core.Path.{◌≡◌, refl}
 use Rattle.ids.specs.declared.Space.{Space}
 use Rattle.ids.specs.declared.Target.{Target}
 use Rattle.least.proofs.Laws.{is_at}
 use Rattle.chassis.specs.declared.Verdict.{Verdict}
 use Rattle.chassis.specs.declared.Verdict.TheVariants.{Clear, Shared, Stray, Lost, Taken}
-use Rattle.chassis.specs.Chassis.{target_in, space_size}
+use Rattle.chassis.specs.Chassis.{space_size}
 use Rattle.chassis.specs.Check.{test_in, least_target, or_next}
-use Rattle.std.specs.Prelude.{Some}
+use Rattle.chassis.specs.Check.{lost_at}
+use Rattle.ids.specs.declared.PortNo.{PortNo}
+use Rattle.std.specs.Prelude.{Option, Some, None}
+use mathlib.Core.Path.{ap}
 
 module _ (test : Target → Bool) (space : Space) {t : ℕ} (e : Some t ≡ least_target test space) where
   pub target_below : t < space_size space
   target_below = (is_at (test_in test space) 0 (space_size space) e).below
 
-  pub target_passes : test (target_in space t) ≡ true
-  unfolding test_in
-  target_passes = (is_at (test_in test space) 0 (space_size space) e).holds
+-- what is said of the port that is found
+pub lost_some : {found : Option ℕ} (p : PortNo) → Some p.0 ≡ found → Lost p ≡ lost_at found
+lost_some p e = ap lost_at e
+
+pub lost_none : {found : Option ℕ} → None ≡ found → Clear ≡ lost_at found
+lost_none e = ap lost_at e
 
 next_assoc : (a b c : Verdict) → or_next (or_next a b) c ≡ or_next a (or_next b c)
 unfolding or_next
