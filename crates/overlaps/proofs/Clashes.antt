@@ -10,6 +10,7 @@ use Rattle.ids.specs.Ids.{port_no}
 use Rattle.chassis.specs.Chassis.{Chassis, holds}
 use Rattle.chassis.specs.Check.{clash, strays_at, takes_at, taken_at}
 use Rattle.chassis.specs.Tree.{root_port}
+use Rattle.holdings.specs.declared.Looked.TheVariants.{Taken as LooksTaken, Held}
 use Rattle.overlaps.specs.declared.meetings.Holding.{Holding}
 use Rattle.overlaps.specs.Overlaps.{has, meeting}
 
@@ -30,21 +31,21 @@ same_either_way a b = go (ℕ_discrete a b)
 
 -- a port and a sibling, or a port and itself
 abbrev pub first_side : ℕ → ℕ → Holding
-first_side p q = record { port = port_no p; own = true; claims = not (eqb p q); taken = false }
+first_side p q = record { port = port_no p; what = Held true (not (eqb p q)) }
 
 abbrev pub second_side : ℕ → ℕ → Holding
-second_side p q = record { port = port_no q; own = not (eqb p q); claims = true; taken = false }
+second_side p q = record { port = port_no q; what = Held (not (eqb p q)) true }
 
 -- a port and its parent
 abbrev pub held : ℕ → Holding
-held p = record { port = port_no p; own = true; claims = true; taken = false }
+held p = record { port = port_no p; what = Held true true }
 
 abbrev pub claimed : ℕ → Holding
-claimed p = record { port = port_no p; own = false; claims = true; taken = false }
+claimed p = record { port = port_no p; what = Held false true }
 
 -- what a port takes
 abbrev pub taken_by : ℕ → Holding
-taken_by q = record { port = port_no q; own = false; claims = false; taken = true }
+taken_by q = record { port = port_no q; what = LooksTaken }
 
 module _ (c : Chassis) (t : Target) where
   -- it does not matter which port comes first

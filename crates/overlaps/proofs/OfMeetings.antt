@@ -31,7 +31,7 @@ space_size_lem Addresses = omega arith
 
 -- the reach of what is looked at of a port
 abbrev reach_for : List ℕ → Space → Holding → Reach
-reach_for s space h = looked_at (port_at s h.port.0) space h.own h.claims h.taken
+reach_for s space h = looked_at (port_at s h.port.0) space h.what
 
 module _ (s : List ℕ) (vector : ℕ → Mechanism → List ℕ) (space : Space) where
   abbrev one : Holding → List ℕ
@@ -42,7 +42,7 @@ module _ (s : List ℕ) (vector : ℕ → Mechanism → List ℕ) (space : Space
 
   has_words : (h : Holding) (t : ℕ) → t < space_size space → reaches (reach_for s space h) (one h) (other h) t ≡ test_in (has (without_video (chassis_with s vector)) h) space t
   unfolding has test_in
-  has_words h t l = looked_words s vector h.port.0 h.own h.claims space h.taken t l
+  has_words h t l = looked_words s vector h.port.0 space h.what t l
 
   module _ (a b : Holding) (want : Bool) where
     pub meets_first : {d e : Reach} → d ≡ reach_for s space a → e ≡ reach_for s space b → EndsIn space d

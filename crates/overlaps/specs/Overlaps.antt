@@ -9,12 +9,17 @@ use Rattle.chassis.specs.declared.Fault.{Fault}
 use Rattle.chassis.specs.Check.{clash, takes_at, at_fault}
 use Rattle.chassis.specs.Tree.{any_below}
 use Rattle.claims.specs.Beside.{video_first}
+use Rattle.holdings.specs.declared.Looked.{Looked}
+use Rattle.holdings.specs.declared.Looked.TheVariants.{Taken, Held}
 use Rattle.overlaps.specs.declared.meetings.Holding.{Holding}
 
--- taken by the port, where that is looked at; else its own ID, where that is, or claimed by it, where that is
+-- taken by port p, where that is looked at; else its own ID, where that is, or claimed by it, where that is
+abbrev pub has_of : Chassis → ℕ → Looked → Target → Bool
+has_of c p Taken t = takes_at c t p
+has_of c p (Held own claims) t = own && is_own c t p || claims && c.claims p t
+
 unfoldable pub has : Chassis → Holding → Target → Bool
-has c h t =
-    cond h.taken (takes_at c t h.port.0) (h.own && is_own c t h.port.0 || h.claims && c.claims h.port.0 t)
+has c h t = has_of c h.port.0 h.what t
 
 -- the first has it, and the second has it or does not, as is wanted
 unfoldable pub meeting : Chassis → Holding → Holding → Bool → Target → Bool

@@ -9,6 +9,7 @@ ghost use Rattle.claims.specs.Beside.{chassis_beside};
 ghost use Rattle.overlaps.specs.Overlaps.{clash_of, faulty_to};
 
 use crate::meetings::{Holding, least_meeting};
+use holdings::Looked;
 use ids::{PortNo, Space};
 use registers::parent_at;
 
@@ -28,15 +29,17 @@ fn with_pair<'a>(
         let apart = p.0 != q.0;
         let a = Holding {
             port: p,
-            own: true,
-            claims: apart,
-            taken: false,
+            what: Looked::Held {
+                own: true,
+                claims: apart,
+            },
         };
         let b = Holding {
             port: q,
-            own: apart,
-            claims: true,
-            taken: false,
+            what: Looked::Held {
+                own: apart,
+                claims: true,
+            },
         };
         least_meeting(s, patch, space, a, b, true, best)
     } else {

@@ -7,6 +7,7 @@ ghost use Rattle.overlaps.specs.Overlaps.{faulty_to};
 
 use crate::meetings::{Holding, least_meeting};
 use chassis::ROOT_PORT;
+use holdings::Looked;
 use ids::{PortNo, Space};
 use registers::{kind_at, parent_at};
 
@@ -27,15 +28,17 @@ pub fn with_child<'a>(
     }
     let held = Holding {
         port: p,
-        own: true,
-        claims: true,
-        taken: false,
+        what: Looked::Held {
+            own: true,
+            claims: true,
+        },
     };
     let claimed = Holding {
         port: parent_at(s, p),
-        own: false,
-        claims: true,
-        taken: false,
+        what: Looked::Held {
+            own: false,
+            claims: true,
+        },
     };
     least_meeting(s, patch, space, held, claimed, false, best)
 }

@@ -7,6 +7,7 @@ ghost use Rattle.overlaps.specs.Overlaps.{faulty_to};
 
 use crate::meetings::{Holding, least_meeting};
 use chassis::ROOT_PORT;
+use holdings::Looked;
 use ids::{PortNo, Space};
 use registers::{kind_at, parent_at};
 
@@ -27,15 +28,14 @@ pub fn with_taken<'a>(
     }
     let taken = Holding {
         port: parent_at(s, p),
-        own: false,
-        claims: false,
-        taken: true,
+        what: Looked::Taken,
     };
     let claimed = Holding {
         port: p,
-        own: false,
-        claims: true,
-        taken: false,
+        what: Looked::Held {
+            own: false,
+            claims: true,
+        },
     };
     least_meeting(s, patch, space, taken, claimed, true, best)
 }

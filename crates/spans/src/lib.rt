@@ -20,6 +20,7 @@ pub struct Reach {
 }
 
 // A reach with the vectors of its two grids.
+#[derive(Clone, Copy)]
 pub struct Reached<'a> {
     pub reach: Reach,
     pub one: &'a [u8],
