@@ -31,8 +31,7 @@ use Rattle.holdings.specs.Holdings.{range_if}
 use Rattle.holdings.proofs.Bools.{four_ways}
 use Rattle.holdings.proofs.Words.{range_in, bus_between}
 use Rattle.patches.specs.Halves.{vector_over}
-use Rattle.std.specs.Bool.{then_some}
-use Rattle.std.specs.Prelude.{Some, None, IfSome}
+use Rattle.std.specs.Prelude.{Some, None}
 use Rattle.painted.specs.declared.units.Claimed.{Claimed}
 use Rattle.painted.specs.declared.units.Part.{Part}
 use Rattle.painted.specs.declared.units.Part.TheVariants.{Ids, Low}
@@ -231,11 +230,6 @@ high_small f k l h fits = (size_small f OfHigh, starts, omega arith)
     starts =
         let all : 64 - k + k ≡ 64 = omega arith in
         lt_of_lt_of_le (shr_lt (64 - k) k (subst (λ (n : ℕ). (settings_of f OfHigh).start < 2 ^ n) (sym all) fits)) (pow_mono {j = 48} (omega arith))
-
--- what counts only where `on` is small where it counts
-pub some_small : (on : Bool) {g : Settings} → small g → IfSome (then_some on g) small
-some_small true h = h
-some_small false h = tt
 
 -- Three things marked are what is claimed.
 painted_on : (base : ℕ) (d : Claimed) (v : List ℕ) {g : Settings} {a b c e : List ℕ} → Marks a b (range_from base d.first) → Marks b c (range_from base d.second)

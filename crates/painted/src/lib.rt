@@ -11,7 +11,6 @@ use ids::PortNo;
 use registers::port_at;
 use strips::Strip;
 pub use units::{Part, Window, is_whole};
-use vectors::Vector;
 
 // Marks the units of a part that port p claims.
 #[tactic(auto, using(crate::proofs::Laws::port_off, crate::proofs::Laws::port_on))]
@@ -23,10 +22,7 @@ pub fn paint<'a>(s: &'a [u8], patch: &'a [u8], p: PortNo, part: Part, strip: &mu
     strip.mark_range(base, d.first);
     strip.mark_range(base, d.second);
     if let Some(settings) = d.entries {
-        let vector = Vector {
-            bytes: patches::vector(s, patch, p, part.mechanism()),
-            settings,
-        };
-        strip.mark_grid(base, &vector);
+        let vector = patches::vector(s, patch, p, part.mechanism());
+        strip.mark_grid(base, vector, settings);
     }
 }

@@ -1,6 +1,5 @@
 // What a port claims in one part of a space beside the video range, in units: of 8 IDs, of a MiB, or of a granule of MEM High.
-ghost use Rattle.std.specs.Prelude.{◌≡◌, ℕ, ◌-◌, ◌^◌, ◌<◌, IfSome};
-ghost use Rattle.strips.specs.Strips.{small};
+ghost use Rattle.std.specs.Prelude.{◌≡◌, ℕ, ◌-◌, ◌^◌, ◌<◌};
 ghost use Rattle.painted.specs.Painted.{in_units, whole_in, memory_units, prefetchable_units, id_units, address_units, high_units};
 
 use claims::{base_of, memory_space_enabled, upper_of};
@@ -8,6 +7,7 @@ use holdings::range_if;
 use registers::{Bridge, Mechanism, Port, enabled, settings};
 use spans::ranges::Range;
 use std::marker::Model;
+use strips::SmallSettings;
 use vectors::Settings;
 
 // A part of the addresses from 4 GiB up: units of 2^scale addresses, from unit `base` on, whose numbers can be added to.
@@ -43,7 +43,7 @@ pub enum Part {
 pub struct Claimed {
     pub first: Range,
     pub second: Range,
-    pub entries: Option<Settings>,
+    pub entries: Option<SmallSettings>,
 }
 
 // A vector's settings in units of 2^k targets.
@@ -70,8 +70,7 @@ pub fn is_whole(start: u64, scale: u32, k: u32) -> bool
 // IDs: the buses of the bus pair, 32 units each, and the RID vector.
 #[tactic(auto, using(crate::proofs::Laws::rid_small), unfolding(crate::specs::Painted::id_units))]
 fn id_units(p: Port) -> Claimed
-    ensures value { result ≡ id_units p }
-    ensures small { IfSome result.entries small }
+    ensures { result ≡ id_units p }
 {
     let b = p.bridge;
     let f = p.fpb;
@@ -82,7 +81,9 @@ fn id_units(p: Port) -> Claimed
             b.subordinate as u64 * 32 + 31,
         ),
         second: Range { lo: 1, hi: 0 },
-        entries: enabled(f, Mechanism::Rid).then_some(in_units(settings(f, Mechanism::Rid), 3)),
+        entries: enabled(f, Mechanism::Rid).then_some(SmallSettings {
+            settings: in_units(settings(f, Mechanism::Rid), 3),
+        }),
     }
 }
 
@@ -113,8 +114,7 @@ fn prefetchable_units(on: bool, b: Bridge) -> Range
 // Addresses: the two windows and the Low vector.
 #[tactic(auto, using(crate::proofs::Laws::low_small), unfolding(crate::specs::Painted::address_units))]
 fn address_units(p: Port) -> Claimed
-    ensures value { result ≡ address_units p }
-    ensures small { IfSome result.entries small }
+    ensures { result ≡ address_units p }
 {
     let b = p.bridge;
     let f = p.fpb;
@@ -122,18 +122,16 @@ fn address_units(p: Port) -> Claimed
     Claimed {
         first: memory_units(on, b),
         second: prefetchable_units(on, b),
-        entries: (on & enabled(f, Mechanism::Low)).then_some(in_units(
-            settings(f, Mechanism::Low),
-            20,
-        )),
+        entries: (on & enabled(f, Mechanism::Low)).then_some(SmallSettings {
+            settings: in_units(settings(f, Mechanism::Low), 20),
+        }),
     }
 }
 
 // A window: the High vector, where its entries are whole units.
 #[tactic(auto, using(crate::proofs::Laws::high_small), unfolding(crate::specs::Painted::high_units))]
 fn high_units(p: Port, w: &Window) -> Claimed
-    ensures value { result ≡ high_units p w.now }
-    ensures small { IfSome result.entries small }
+    ensures { result ≡ high_units p w.now }
 {
     let b = p.bridge;
     let f = p.fpb;
@@ -144,7 +142,9 @@ fn high_units(p: Port, w: &Window) -> Claimed
     Claimed {
         first: Range { lo: 1, hi: 0 },
         second: Range { lo: 1, hi: 0 },
-        entries: on.then_some(in_units(g, w.scale)),
+        entries: on.then_some(SmallSettings {
+            settings: in_units(g, w.scale),
+        }),
     }
 }
 
@@ -153,8 +153,7 @@ impl Part {
 
     // What a port claims in it.
     pub fn units_of(&self, p: Port) -> Claimed
-        ensures value { result ≡ units_of p self.now }
-        ensures small { IfSome result.entries small }
+        ensures { result ≡ units_of p self.now }
     {
         match self {
             Part::Ids => id_units(p),

@@ -7,6 +7,7 @@ mod finds;
 mod marks;
 mod strip;
 
+pub use entries::SmallSettings;
 pub use finds::{first_of_both, is_marked, join};
 pub use strip::Strip;
 

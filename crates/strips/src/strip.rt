@@ -1,13 +1,13 @@
 // A strip, and what is marked in it: units that are a word's digits, a range, or a vector's entries.
 ghost use Rattle.std.specs.Prelude.{◌≡◌, ℕ, ◌+◌, ◌*◌, ◌/◌, ◌%◌, ◌^◌, ◌≤◌, ◌<◌};
 ghost use Rattle.spans.specs.Ranges.{in_range};
-ghost use Rattle.strips.specs.Strips.{Marks, in_word, digits_from, range_from, grid_from, small};
+ghost use Rattle.strips.specs.Strips.{Marks, in_word, digits_from, range_from, grid_from};
 
 use crate::WORDS;
-use crate::entries::{end_entry, first_entry, units_of};
+use crate::entries::{SmallSettings, end_entry, first_entry, units_of};
 use crate::marks::{mark_word, word_between};
 use spans::ranges::Range;
-use vectors::{Vector, next_entry, word};
+use vectors::{next_entry, word};
 
 // The words, unit u as digit u mod 64 of word u/64.
 pub struct Strip {
@@ -88,14 +88,13 @@ impl Strip {
 
     // Marks each entry that is set, one after the other.
     #[tactic(auto, using(crate::proofs::OfGrids::grid_begin, crate::proofs::OfGrids::grid_end, crate::proofs::OfGrids::grid_more, least::proofs::Laws::is_at, least::proofs::Laws::is_none, crate::proofs::Laws::marks_also, crate::proofs::Laws::marks_as, crate::proofs::Laws::marks_none, crate::proofs::OfGrids::sized))]
-    fn mark_entries(&mut self, base: u64, v: &Vector)
-        requires { small v.now.settings × (base < 2 ^ 62) }
-        ensures { Marks self.old.words self.new.words (grid_from base v.now.bytes.now v.now.settings) }
+    fn mark_entries(&mut self, base: u64, v: &[u8], g: SmallSettings)
+        requires { base < 2 ^ 62 }
+        ensures { Marks self.old.words self.new.words (grid_from base v.now g) }
     {
-        let g = v.settings;
         let end = end_entry(base, g);
         let mut i = first_entry(base, g);
-        while let Some(e) = next_entry(v.bytes, true, i, end) {
+        while let Some(e) = next_entry(v, true, i, end) {
             self.mark_range(base, units_of(g, e));
             i = e + 1;
         }
@@ -103,26 +102,24 @@ impl Strip {
 
     // Marks entries that are a unit each, 64 at a time.
     #[tactic(auto, using(crate::proofs::OfGrids::all_words, crate::proofs::OfGrids::grid_word, crate::proofs::Laws::marks_also, crate::proofs::Laws::marks_as, crate::proofs::Laws::marks_none, crate::proofs::OfGrids::no_words, crate::proofs::OfGrids::sized))]
-    fn mark_words(&mut self, base: u64, v: &Vector)
-        requires { small v.now.settings × (v.now.settings.scale ≡ 0) × (v.now.settings.size % 64 ≡ 0) }
-        ensures { Marks self.old.words self.new.words (grid_from base v.now.bytes.now v.now.settings) }
+    fn mark_words(&mut self, base: u64, v: &[u8], g: SmallSettings)
+        requires { (g.scale ≡ 0) × (g.size % 64 ≡ 0) }
+        ensures { Marks self.old.words self.new.words (grid_from base v.now g) }
     {
-        let g = v.settings;
-        for j in 0..g.size / 64 {
-            self.mark_from(base, g.start + 64 * j, word(v.bytes, j));
+        for j in 0..g.size() / 64 {
+            self.mark_from(base, g.start() + 64 * j, word(v, j));
         }
     }
 
     // Marks the units whose entry is set, as far as they lie in the strip from `base` on: by words where an entry is a unit.
-    pub fn mark_grid(&mut self, base: u64, v: &Vector)
-        requires { small v.now.settings × (base < 2 ^ 62) }
-        ensures { Marks self.old.words self.new.words (grid_from base v.now.bytes.now v.now.settings) }
+    pub fn mark_grid(&mut self, base: u64, v: &[u8], g: SmallSettings)
+        requires { base < 2 ^ 62 }
+        ensures { Marks self.old.words self.new.words (grid_from base v.now g) }
     {
-        let g = v.settings;
-        if g.scale == 0 && g.size % 64 == 0 {
-            self.mark_words(base, v);
+        if g.fills_words() {
+            self.mark_words(base, v, g);
         } else {
-            self.mark_entries(base, v);
+            self.mark_entries(base, v, g);
         }
     }
 }

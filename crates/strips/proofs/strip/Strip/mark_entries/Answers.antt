@@ -7,7 +7,7 @@ use Rattle.strips.proofs.strip.Strip.mark_entries.Goals as goal
 pub units_of-requires : goal.units_of-requires
 units_of-requires c =
     let a = is_at _ _ _ (sym c.in-Some.is ∙ c.next_entry.ensures) in
-    (c.requires.0, omega (arith, c.end_entry-end.ensures, a.below))
+    omega (arith, c.end_entry-end.ensures, a.below)
 
 pub overflow_add-i : goal.overflow_add-i
 overflow_add-i c = let a = is_at _ _ _ (sym c.in-Some.is ∙ c.next_entry.ensures) in omega (arith, a.below)
@@ -20,5 +20,5 @@ loop-e-preserved c =
     let a = is_at _ _ _ (sym c.in-Some.is ∙ c.next_entry.ensures) in (
       omega (arith, c.end_entry-end.ensures, a.below),
       marks_also c.loop-e.invariant.1 (rw c.units_of.ensures at c.mark_range.ensures)
-          (λ u l. grid_more c.args.base c.args.v.now.bytes.now c.args.v.now.settings _ _ u a),
+          (λ u l. grid_more c.args.base c.args.v.now c.args.g _ _ u a),
     )

@@ -4,4 +4,4 @@ use Rattle.strips.proofs.OfGrids.{sized}
 use Rattle.strips.proofs.strip.Strip.mark_words.Given as goal
 
 abbrev pub invariant-loop-j : goal.invariant-loop-j
-invariant-loop-j l = Marks l.initial.self.words l.self.words (grid_from l.base l.v.bytes.now (sized l.v.settings (64 * l.j)))
+invariant-loop-j l = Marks l.initial.self.words l.self.words (grid_from l.base l.v (sized l.g (64 * l.j)))
