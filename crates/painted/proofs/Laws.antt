@@ -31,10 +31,11 @@ use Rattle.holdings.specs.Holdings.{range_if}
 use Rattle.holdings.proofs.Bools.{four_ways}
 use Rattle.holdings.proofs.Words.{range_in, bus_between}
 use Rattle.patches.specs.Halves.{vector_over}
+use Rattle.std.specs.Prelude.{Some, None}
 use Rattle.painted.specs.declared.units.Claimed.{Claimed}
 use Rattle.painted.specs.declared.units.Part.{Part}
 use Rattle.painted.specs.declared.units.Part.TheVariants.{Ids, Low}
-use Rattle.painted.specs.Painted.{in_units, id_units, memory_units, prefetchable_units, address_units, units_of, base_unit, mechanism_of, claimed_by, claimed_in}
+use Rattle.painted.specs.Painted.{in_units, id_units, memory_units, prefetchable_units, address_units, units_of, base_unit, mechanism_of, hits_if, claimed_by, claimed_in}
 
 -- a range of whole units
 pub units_between : (k lo hi t : ℕ) → between (lo * 2 ^ k) (hi * 2 ^ k + (2 ^ k - 1)) t ≡ between lo hi (t / 2 ^ k)
@@ -95,6 +96,11 @@ second_off : (a x : Bool) {b : Bool} → b ≡ false → (a || x) ≡ (a || b ||
 second_off true x e = refl
 second_off false x e = rw e
 
+-- entries that count where `on`
+entries_if : (on : Bool) (v : List ℕ) (g : Settings) (u : ℕ) → hits_if v (cond on (Some g) None) u ≡ (on && hits v g u)
+entries_if true v g u = refl
+entries_if false v g u = refl
+
 -- IDs
 module _ (p : Port) (vector : Mechanism → List ℕ) where
   bus_units : (t : ℕ) → t < 2 ^ 16 → bus_claims p.bridge t ≡ in_range (id_units p).first (t / 2 ^ 3)
@@ -117,9 +123,10 @@ module _ (p : Port) (vector : Mechanism → List ℕ) where
   pub id_units_lem : (t : ℕ) → t < 2 ^ 16 → beside_video (id_decoders p vector t) ≡ claimed_by (id_units p) (vector OfRid) (t / 2 ^ 3)
   unfolding claimed_by id_units
   id_units_lem t small =
-      beside_id p vector t
+      rw (entries_if (enabled_in p.fpb OfRid) (vector OfRid) (in_units (settings_of p.fpb OfRid) 3) (t / 2 ^ 3))
+      (beside_id p vector t
       ∙ ap₂ (λ (x y : Bool). x || y) (bus_units t small) (rid_units t)
-      ∙ second_off (in_range (id_units p).first (t / 2 ^ 3)) _ (none_in (t / 2 ^ 3))
+      ∙ second_off (in_range (id_units p).first (t / 2 ^ 3)) _ (none_in (t / 2 ^ 3)))
 
 -- addresses below 4 GiB
 upper_units : (b : Bridge) (x : ℕ) → upper_of b x ≡ cond (eqb (b.prefetchable_base % 16) 1) (x * 2 ^ 12) 0 * 2 ^ 20
@@ -174,9 +181,10 @@ module _ (p : Port) (vector : Mechanism → List ℕ) where
   pub address_units_lem : (t : ℕ) → t < 2 ^ 32 → beside_video (address_decoders p vector t) ≡ claimed_by (address_units p) (vector OfLow) (t / 2 ^ 20)
   unfolding claimed_by address_units
   address_units_lem t small =
-      beside_address p vector t
+      rw (entries_if (on && enabled_in p.fpb OfLow) (vector OfLow) (in_units (settings_of p.fpb OfLow) 20) (t / 2 ^ 20))
+      (beside_address p vector t
       ∙ sym (four_ways on (memory_claims b t) (prefetchable_claims b t) (low_claims p.fpb (vector OfLow) t) (high_claims p.fpb (vector OfHigh) t))
-      ∙ rw (memory_units_lem t, prefetchable_units_lem t, low_units t small, no_high t small, or-false)
+      ∙ rw (memory_units_lem t, prefetchable_units_lem t, low_units t small, no_high t small, or-false))
 
 -- a target is claimed exactly if its unit is: an ID, or an address below 4 GiB
 pub id_claimed : (s patch : List ℕ) (p t : ℕ) → t < 2 ^ 16 → (chassis_beside s patch).claims p (Id (record { 0 = t })) ≡ claimed_in s patch p Ids (t / 2 ^ 3)
@@ -224,23 +232,23 @@ high_small f k l h fits = (size_small f OfHigh, starts, omega arith)
         lt_of_lt_of_le (shr_lt (64 - k) k (subst (λ (n : ℕ). (settings_of f OfHigh).start < 2 ^ n) (sym all) fits)) (pow_mono {j = 48} (omega arith))
 
 -- Three things marked are what is claimed.
-painted_on : (base : ℕ) (d : Claimed) (v : List ℕ) {a b c e : List ℕ} → Marks a b (range_from base d.first) → Marks b c (range_from base d.second)
-    → d.on ≡ true → Marks c e (grid_from base v d.settings) → Marks a e (λ u. claimed_by d v (base + u))
+painted_on : (base : ℕ) (d : Claimed) (v : List ℕ) {g : Settings} {a b c e : List ℕ} → Marks a b (range_from base d.first) → Marks b c (range_from base d.second)
+    → Some g ≡ d.entries → Marks c e (grid_from base v g) → Marks a e (λ u. claimed_by d v (base + u))
 unfolding claimed_by range_from grid_from
-painted_on base d v x y on z = marks_also (marks_also x y (λ u l. refl)) z (λ u l. rw on)
+painted_on base d v x y on z = marks_also (marks_also x y (λ u l. refl)) z (λ u l. rw (← on))
 
 painted_off : (base : ℕ) (d : Claimed) (v : List ℕ) {a b c : List ℕ} → Marks a b (range_from base d.first) → Marks b c (range_from base d.second)
-    → d.on ≡ false → Marks a c (λ u. claimed_by d v (base + u))
+    → None ≡ d.entries → Marks a c (λ u. claimed_by d v (base + u))
 unfolding claimed_by range_from
-painted_off base d v x y off = marks_also x y (λ u l. rw off (sym (or-false (in_range d.first (base + u) || in_range d.second (base + u)))))
+painted_off base d v x y off = marks_also x y (λ u l. rw (← off) (sym (or-false (in_range d.first (base + u) || in_range d.second (base + u)))))
 
 module _ (s patch : List ℕ) (p : ℕ) (part : Part) {base : ℕ} {d : Claimed} (begins : base ≡ base_unit part) (units : d ≡ units_of (port_at s p) part) where
-  pub port_on : {v a b c e : List ℕ} → v ≡ vector_over s patch p (mechanism_of part) → Marks a b (range_from base d.first) → Marks b c (range_from base d.second)
-      → d.on ≡ true → Marks c e (grid_from base v d.settings) → Marks a e (claimed_in s patch p part)
+  pub port_on : {g : Settings} {v a b c e : List ℕ} → v ≡ vector_over s patch p (mechanism_of part) → Marks a b (range_from base d.first) → Marks b c (range_from base d.second)
+      → Some g ≡ d.entries → Marks c e (grid_from base v g) → Marks a e (claimed_in s patch p part)
   unfolding claimed_in
   port_on {v} vector x y on z = marks_as (painted_on base d v x y on z) (λ u l i. claimed_by (units i) (vector i) (begins i + u))
 
-  pub port_off : {a b c : List ℕ} → Marks a b (range_from base d.first) → Marks b c (range_from base d.second) → d.on ≡ false
+  pub port_off : {a b c : List ℕ} → Marks a b (range_from base d.first) → Marks b c (range_from base d.second) → None ≡ d.entries
       → Marks a c (claimed_in s patch p part)
   unfolding claimed_in
   port_off x y off = marks_as (painted_off base d (vector_over s patch p (mechanism_of part)) x y off) (λ u l i. claimed_by (units i) (vector_over s patch p (mechanism_of part)) (begins i + u))

@@ -1,5 +1,5 @@
 -- What a port claims beside the video range, in units: of 8 IDs, of a MiB, or of granules of MEM High. What is off is an empty range.
-use Rattle.std.specs.Prelude.{ℕ, ◌+◌, ◌-◌, ◌*◌, ◌/◌, ◌%◌, ◌^◌, ◌≤◌, ◌<◌, Bool, not, ◌&&◌, ◌||◌, List, eqb, leb}
+use Rattle.std.specs.Prelude.{ℕ, ◌+◌, ◌-◌, ◌*◌, ◌/◌, ◌%◌, ◌^◌, Bool, false, not, cond, ◌&&◌, ◌||◌, List, eqb, leb, Option, Some, None}
 use Rattle.vectors.specs.declared.Settings.{Settings}
 use Rattle.vectors.specs.Vectors.{hits}
 use Rattle.registers.specs.declared.Bridge.{Bridge}
@@ -34,15 +34,6 @@ mechanism_of Ids = OfRid
 mechanism_of Low = OfLow
 mechanism_of (High w) = OfHigh
 
--- a window lies above 4 GiB, and its units have numbers that can be added to
-abbrev pub FitsWindow : Window → Type 0
-FitsWindow w = (28 ≤ w.scale) × (w.scale < 64) × (w.base < 2 ^ 62)
-
-abbrev pub FitsPart : Part → Type 0
-FitsPart Ids = Unit {0}
-FitsPart Low = Unit {0}
-FitsPart (High w) = FitsWindow w
-
 -- each entry is whole units of 2^k targets
 unfoldable pub whole_in : Settings → ℕ → Bool
 whole_in g k = leb k g.scale && eqb (g.start / 2 ^ k * 2 ^ k % 2 ^ 64) g.start
@@ -55,8 +46,7 @@ id_units p =
     record {
       first = range_if (not (eqb p.bridge.secondary 0 && eqb p.bridge.subordinate 0)) (p.bridge.secondary * 32) (p.bridge.subordinate * 32 + 31);
       second = record { lo = 1; hi = 0 };
-      on = enabled_in p.fpb OfRid;
-      settings = in_units (settings_of p.fpb OfRid) 3;
+      entries = cond (enabled_in p.fpb OfRid) (Some (in_units (settings_of p.fpb OfRid) 3)) None;
     }
 
 unfoldable pub memory_units : Bool → Bridge → Range
@@ -72,8 +62,7 @@ address_units p =
     record {
       first = memory_units (memory_space_enabled p.bridge) p.bridge;
       second = prefetchable_units (memory_space_enabled p.bridge) p.bridge;
-      on = memory_space_enabled p.bridge && enabled_in p.fpb OfLow;
-      settings = in_units (settings_of p.fpb OfLow) 20;
+      entries = cond (memory_space_enabled p.bridge && enabled_in p.fpb OfLow) (Some (in_units (settings_of p.fpb OfLow) 20)) None;
     }
 
 unfoldable pub high_units : Port → Window → Claimed
@@ -81,8 +70,7 @@ high_units p w =
     record {
       first = record { lo = 1; hi = 0 };
       second = record { lo = 1; hi = 0 };
-      on = memory_space_enabled p.bridge && enabled_in p.fpb OfHigh && whole_in (settings_of p.fpb OfHigh) w.scale;
-      settings = in_units (settings_of p.fpb OfHigh) w.scale;
+      entries = cond (memory_space_enabled p.bridge && enabled_in p.fpb OfHigh && whole_in (settings_of p.fpb OfHigh) w.scale) (Some (in_units (settings_of p.fpb OfHigh) w.scale)) None;
     }
 
 abbrev pub units_of : Port → Part → Claimed
@@ -90,9 +78,13 @@ units_of p Ids = id_units p
 units_of p Low = address_units p
 units_of p (High w) = high_units p w
 
--- v is the vector
+-- v is the vector, whose entries count where there are settings
+abbrev pub hits_if : List ℕ → Option Settings → ℕ → Bool
+hits_if v (Some g) u = hits v g u
+hits_if v None u = false
+
 unfoldable pub claimed_by : Claimed → List ℕ → ℕ → Bool
-claimed_by d v u = in_range d.first u || in_range d.second u || d.on && hits v d.settings u
+claimed_by d v u = in_range d.first u || in_range d.second u || hits_if v d.entries u
 
 -- unit u of a part, counted from its first, is claimed by port p of a picture and a patch
 unfoldable pub claimed_in : List ℕ → List ℕ → ℕ → Part → ℕ → Bool

@@ -15,7 +15,7 @@ pub struct Grid {
 }
 
 // Where an entry begins, or `from` if that is later; an entry past the last target begins nowhere.
-#[tactic(auto, using(crate::proofs::OfGrids::begins_below, crate::proofs::OfGrids::shift_exact), unfolding(crate::specs::Grids::begins_from))]
+#[tactic(auto, unfolding(crate::specs::Grids::begins_from))]
 fn begin(s: Settings, from: u64, i: u64) -> Option<u64>
     ensures { result ≡ begins_from s from i }
 {

@@ -55,7 +55,7 @@ impl Reached<'_> {
     }
 
     // The next target, from `from` on, that is not reached.
-    #[tactic(auto, using(least::proofs::Laws::none_empty, crate::proofs::OfReaches::skip_at, crate::proofs::OfReaches::skip_found, crate::proofs::OfReaches::skip_more, crate::proofs::OfReaches::skip_none))]
+    #[tactic(auto, using(crate::proofs::OfReaches::skip_found, crate::proofs::OfReaches::skip_none))]
     pub fn next_unreached(&self, from: u64) -> Option<u64>
         ensures { result ≡ first_in (misses self.now.reach self.now.one.now self.now.other.now) from (2 ^ 64) }
     {

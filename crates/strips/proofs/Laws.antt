@@ -1,6 +1,6 @@
 -- Binary digits of words that are joined, masked and shifted, and marks in a strip. Assumes nothing.
 use Prim.Native.Nat.{ℕ, zero, suc, ◌+◌, ◌-◌, ◌*◌, ◌/◌, ◌%◌, ◌^◌, ◌≤◌, ◌<◌, min, max}
-use mathlib.Core.Bool.{Bool, true, false, not, ◌&&◌, ◌||◌, beq, or-false, or_assoc}
+use mathlib.Core.Bool.{Bool, false, not, ◌&&◌, ◌||◌, or-false, or_assoc}
 use mathlib.Core.List.{List}
 use mathlib.Core.Path.{◌≡◌, refl, sym, ap, ◌∙◌, subst}
 use native.Mathlib.Decide.{dec_le, dec_lt, ℕ_discrete}
@@ -143,15 +143,6 @@ word_marks l k x h = record { at = λ u l. go u (ℕ_discrete (u / 64) k) }
     go u (no e) =
         rw (ne_eqb (u / 64) k e, or-false)
         (ap (λ (y : ℕ). bit y (u % 64)) (get_or-set_other l k (u / 64) (bit_or (get_or l k 0) x) 0 e))
-
--- a digit as it is, or turned
-pub as_wanted : (b : Bool) {want : Bool} → want ≡ true → b ≡ beq b want
-as_wanted true e = rw e
-as_wanted false e = rw e
-
-pub not_wanted : (b : Bool) {want : Bool} → want ≡ false → not b ≡ beq b want
-not_wanted true e = rw e
-not_wanted false e = rw e
 
 -- Of the units a to b those of word k.
 pub word_part : (a b k j : ℕ) → j < 64 → 64 * k ≤ b

@@ -5,6 +5,7 @@ ghost use Rattle.least.specs.Least.{first_in};
 ghost use Rattle.strips.specs.Strips.{digit, marked, marked_both, Marks, words_of};
 
 use crate::marks::mark_word;
+use vectors::wanted;
 
 // Whether a unit is marked.
 #[tactic(auto, unfolding(crate::specs::Strips::marked))]
@@ -15,27 +16,17 @@ pub fn is_marked(strip: &[u64], u: u64) -> bool
     (strip[(u / 64) as usize] >> (u % 64)) % 2 == 1
 }
 
-// A word as it is, or, where that is wanted, its clear digits set.
-#[tactic(auto, using(crate::proofs::Laws::as_wanted, vectors::proofs::Digits::bit, vectors::proofs::Digits::bit_not, crate::proofs::Laws::not_wanted))]
-fn wanted(x: u64, want: bool) -> u64
-    ensures { (k : ℕ) → k < 64 → digit result k ≡ beq (digit x k) want }
-{
-    if want { x } else { !x }
-}
-
 // The first unit of the first `words` words that is marked in a, and in b or not, as is wanted.
 #[tactic(auto, using(least::proofs::Laws::NoneIn, least::proofs::Laws::at_is, crate::proofs::OfMarks::both_digits, vectors::proofs::Digits::digits_least, vectors::proofs::Digits::digits_none, least::proofs::Laws::none_empty, least::proofs::Laws::none_is, least::proofs::Laws::none_join, least::proofs::Laws::none_part))]
 pub fn first_of_both(a: &[u64], b: &[u64], want: bool, words: usize) -> Option<u64>
     requires { (words ≤ length a.now) × (words ≤ length b.now) × (words ≤ 128) }
     ensures { result ≡ first_in (marked_both a.now b.now want) 0 (64 * words) }
 {
-    let mut k: usize = 0;
-    while k < words {
+    for k in 0..words {
         let both = a[k] & wanted(b[k], want);
         if both != 0 {
-            return Some(64 * (k as u64) + u64::trailing_zeros(both) as u64);
+            return Some(64 * (k as u64) + both.trailing_zeros() as u64);
         }
-        k += 1;
     }
     None
 }
@@ -46,9 +37,7 @@ pub fn join(a: &mut [u64], b: &[u64], words: usize)
     requires { (words ≤ length a.old) × (words ≤ length b.now) }
     ensures { Marks a.old a.new (words_of words b.now) }
 {
-    let mut k: usize = 0;
-    while k < words {
+    for k in 0..words {
         mark_word(a, k, b[k]);
-        k += 1;
     }
 }

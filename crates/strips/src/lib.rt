@@ -2,16 +2,14 @@
 // are marked in it, and two strips are compared a word at a time.
 #![tactic(auto)]
 
-mod amounts;
+mod entries;
 mod finds;
-mod grids;
 mod marks;
-mod placed;
-mod ranges;
+mod strip;
 
+pub use entries::SmallSettings;
 pub use finds::{first_of_both, is_marked, join};
-pub use grids::mark_grid;
-pub use ranges::mark_range;
+pub use strip::Strip;
 
 // How many words a strip has.
 pub const WORDS: usize = 128;

@@ -2,15 +2,13 @@
 ghost use Rattle.std.specs.Prelude.{◌&&◌, ◌≡◌, ℕ, ◌+◌, ◌*◌, ◌≤◌, ◌<◌, leb, length};
 ghost use Rattle.strips.specs.Strips.{digit, Marks, in_word};
 
-use crate::amounts::{left_of, lower};
-
 // Marks the units of word k that are digits of x.
 #[tactic(auto, using(crate::proofs::Laws::word_marks))]
 pub fn mark_word(strip: &mut [u64], k: usize, x: u64)
     requires { k < length strip.old }
     ensures { Marks strip.old strip.new (in_word k x) }
 {
-    strip[k] = strip[k] | x;
+    strip[k] |= x;
 }
 
 // The digits lo to hi.
@@ -30,5 +28,5 @@ pub fn word_between(a: u64, b: u64, k: u64) -> u64
     ensures { (j : ℕ) → j < 64 → digit result j ≡ (leb a (64 * k + j) && leb (64 * k + j) b) }
 {
     let first = 64 * k;
-    digits_between(left_of(a, first), lower(b - first, 63))
+    digits_between(a.saturating_sub(first), (b - first).min(63))
 }

@@ -1,10 +1,7 @@
 use Rattle.least.proofs.Laws.{NoneIn}
 use Rattle.strips.specs.Strips.{marked_both}
-use Rattle.std.proofs.Common.{◌*◌, ◌-◌, ◌≤◌}
+use Rattle.std.proofs.Common.{◌*◌}
 use Rattle.strips.proofs.finds.first_of_both.Given as goal
 
 abbrev pub invariant-loop-k : goal.invariant-loop-k
-invariant-loop-k l = (l.k ≤ l.words) × NoneIn (marked_both l.a l.b l.want) 0 (64 * l.k)
-
-abbrev pub decreases-loop-k : goal.decreases-loop-k
-decreases-loop-k l = l.words - l.k
+invariant-loop-k l = NoneIn (marked_both l.a l.b l.want) 0 (64 * l.k)

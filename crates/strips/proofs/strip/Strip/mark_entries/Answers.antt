@@ -2,12 +2,12 @@ use Rattle.std.proofs.Common.{sym, ◌∙◌, arith}
 use Rattle.least.proofs.Laws.{is_at}
 use Rattle.strips.proofs.Laws.{marks_also}
 use Rattle.strips.proofs.OfGrids.{grid_more}
-use Rattle.strips.proofs.grids.mark_entries.Goals as goal
+use Rattle.strips.proofs.strip.Strip.mark_entries.Goals as goal
 
 pub units_of-requires : goal.units_of-requires
 units_of-requires c =
     let a = is_at _ _ _ (sym c.in-Some.is ∙ c.next_entry.ensures) in
-    (c.requires.small.0, omega (arith, c.end_entry-end.ensures, a.below))
+    omega (arith, c.end_entry-end.ensures, a.below)
 
 pub overflow_add-i : goal.overflow_add-i
 overflow_add-i c = let a = is_at _ _ _ (sym c.in-Some.is ∙ c.next_entry.ensures) in omega (arith, a.below)
@@ -19,7 +19,6 @@ pub loop-e-preserved : goal.loop-e-preserved
 loop-e-preserved c =
     let a = is_at _ _ _ (sym c.in-Some.is ∙ c.next_entry.ensures) in (
       omega (arith, c.end_entry-end.ensures, a.below),
-      c.mark_range.auto.strip ∙ c.loop-e.invariant.1,
-      marks_also c.loop-e.invariant.2 (rw c.units_of.ensures at c.mark_range.ensures)
+      marks_also c.loop-e.invariant.1 (rw c.units_of.ensures at c.mark_range.ensures)
           (λ u l. grid_more c.args.base c.args.v.now c.args.g _ _ u a),
     )
