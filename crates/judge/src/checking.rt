@@ -4,7 +4,9 @@ ghost use Rattle.judge.specs.Checking.{check_answer, check_finding};
 
 use crate::refusals::refusal_finding;
 use chassis::{Finding, Verdict, finding_of};
+use patches::PatchedPicture;
 use picture::Refusal;
+use trees::Picture;
 
 // Numbers 1 to 10, then 11 to 15 and 18 with the least target and its ports, else clear.
 #[tactic(auto, using(picture::proofs::WhatReads::count_few, picture::proofs::WhatReads::count_read, claims::proofs::Over::unpatched), unfolding(crate::specs::Checking::check_of))]
@@ -12,7 +14,14 @@ pub fn check(s: &[u8]) -> Result<Verdict, Refusal>
     ensures { result ≡ check_answer s.now }
 {
     let h = picture::read(s)?;
-    Ok(verdicts::verdict(s, patches::none(s), h.count as u8))
+    let over = PatchedPicture {
+        picture: Picture {
+            bytes: s,
+            count: h.count as u8,
+        },
+        patch: &[],
+    };
+    Ok(verdicts::verdict(&over))
 }
 
 // What is said of the check's answer: the number, the target that it shows and the ports that it names.

@@ -6,14 +6,13 @@ ghost use Rattle.claims.specs.Over.{chassis_in};
 ghost use Rattle.judge.specs.Asking.{id_too_large};
 ghost use Rattle.judge.specs.Walking.{packet_of, is_start, asked_wrongly, AskedGives, WalkGives};
 
-use trees::Picture;
-use patches::PatchedPicture;
 use crate::asking::{id_too_large, target_asked};
-use crate::refusals::number_16;
 use chassis::Packet;
 use ids::{PortNo, Rid};
+use patches::PatchedPicture;
 use picture::Refusal;
 use routes::Walked;
+use trees::Picture;
 
 // The start of a packet that comes from the host.
 const ROOT_START: u32 = 255;
@@ -38,8 +37,7 @@ fn is_start(picture: &Picture, start: u32) -> bool
     if start == ROOT_START {
         return true;
     }
-    let count = picture.count as u32;
-    if count <= start {
+    if picture.count as u32 <= start {
         return false;
     }
     picture.is_device_port(PortNo(start as u8))
@@ -53,17 +51,19 @@ fn asked_wrongly(picture: &Picture, kind: u32, start: u32, target: u64) -> bool
     (2 < kind) | id_too_large(kind, target) | !is_start(picture, start)
 }
 
-// Number 16, else where the packet ends, with every port crossed, over a picture of n ports that reads and a patch.
+// Number 16, else where the packet ends, with every port crossed, over a picture that reads and a patch.
 #[tactic(auto, using(crate::proofs::Walks::gives_16, crate::proofs::Walks::gives_end, crate::proofs::Walks::id_fits, crate::proofs::Walks::small_start, crate::proofs::Walks::within_start))]
-pub fn walk_over(over: &PatchedPicture, kind: u32,
+pub fn walk_over(
+    over: &PatchedPicture,
+    kind: u32,
     start: u32,
     target: u64,
 ) -> Result<Walked, Refusal>
     requires sane { Sane (tree_of over.now.picture.bytes.now) }
     ensures { AskedGives (asked_wrongly (tree_of over.now.picture.bytes.now) kind start target) (chassis_in over.now) kind start target result }
 {
-    if asked_wrongly(over.picture.bytes, over.picture.count, kind, start, target) {
-        return Err(number_16());
+    if asked_wrongly(&over.picture, kind, start, target) {
+        return Err(Refusal::AskedWrongly);
     }
     let packet = packet_of(kind, target);
     let from = routes::starts_at(over, packet, PortNo(start as u8));
@@ -76,5 +76,12 @@ pub fn walk(s: &[u8], kind: u32, start: u32, target: u64) -> Result<Walked, Refu
     ensures { WalkGives s.now kind start target result }
 {
     let h = picture::read(s)?;
-    walk_over(s, patches::none(s), h.count as u8, kind, start, target)
+    let over = PatchedPicture {
+        picture: Picture {
+            bytes: s,
+            count: h.count as u8,
+        },
+        patch: &[],
+    };
+    walk_over(&over, kind, start, target)
 }

@@ -1,4 +1,4 @@
-use Rattle.std.proofs.Common.{ap, ◌∙◌}
+use Rattle.std.proofs.Common.{[], refl, ap, ◌∙◌}
 use Rattle.ids.specs.declared.Target.TheVariants.{Id}
 use Rattle.chassis.specs.Chassis.{Chassis}
 use Rattle.claims.proofs.Over.{unpatched}
@@ -13,4 +13,4 @@ returns c =
     (ap Ok
     (c.conversion.ensures
     ∙ ap (λ (x : Chassis). x.conversion c.args.port (Id (record { 0 = c.args.target })))
-    (unpatched c.args.s.now c.none.result.now c.none.ensures)))
+    (unpatched c.args.s.now [] refl)))
