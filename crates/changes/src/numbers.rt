@@ -19,7 +19,7 @@ pub fn reading_number(first: &[u8]) -> u32
 {
     match picture::read(first) {
         Ok(_) => 0,
-        Err(r) => r.number as u32,
+        Err(r) => r.number() as u32,
     }
 }
 

@@ -34,7 +34,7 @@ pub fn fpb_claim(picture: &[u8], port: u32, kind: u32, target: u64, decoders: &m
     ensures { ClaimCall (claim_answer picture.now port kind target) decoders.old result decoders.new }
 {
     match claim(picture, port, kind, target) {
-        Err(r) => r.number as u32,
+        Err(r) => r.number() as u32,
         Ok(h) => {
             *decoders = decoder_bits(h.decoders);
             0

@@ -24,7 +24,7 @@ pub fn fpb_convert(picture: &[u8], port: u32, target: u64, decided: &mut u32) ->
     ensures { ConvertCall (convert_answer picture.now port target) decided.old result decided.new }
 {
     match convert(picture, port, target) {
-        Err(r) => r.number as u32,
+        Err(r) => r.number() as u32,
         Ok(made) => {
             *decided = conversion_code(made);
             0
