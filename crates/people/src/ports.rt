@@ -83,7 +83,7 @@ fn say_found_above(rt: &impl Print, s: &[u8], p: PortNo) -> io::Result<()> {
 // A port that breaks a rule of the tree: its kind and parent may be any numbers.
 pub fn say_tree_breaker(rt: &impl Print, s: &[u8], p: PortNo) -> io::Result<()> {
     let id = own_id_at(s, p);
-    print!(rt; "port {p} ({id}, {}", Kind(kind_at(s, p)))?;
+    print!(rt; ": port {p} ({id}, {}", Kind(kind_at(s, p)))?;
     say_parent(rt, s, p)?;
     print!(rt; ")")?;
     say_found_above(rt, s, p)

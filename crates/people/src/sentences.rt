@@ -49,12 +49,12 @@ fn say_of_picture(rt: &impl Print, s: &[u8], number: u8) -> io::Result<()> {
 fn say_misplaced(rt: &impl Print, s: &[u8], p: PortNo) -> io::Result<()> {
     if p == PortNo::NONE {
         return print!(rt;
-            "the last ones do not, and the picture has {}",
+            ": the last ones do not, and the picture has {}",
             Counted(s.len(), "byte")
         );
     }
     print!(rt;
-        "those of {} begin at byte {}",
+        ": those of {} begin at byte {}",
         InTree(s, p),
         port_at(s, p).vectors_at
     )
@@ -92,7 +92,7 @@ fn say_of_port<'a>(
     if number == 10 {
         return say_misplaced(rt, s, p);
     }
-    rt.print(InTree(s, p))?;
+    print!(rt; ": {}", InTree(s, p))?;
     match number {
         8 => say_wrong_settings(rt, s, p),
         9 => say_wrong_starts(rt, s, p),
@@ -111,7 +111,7 @@ fn say_of_holder<'a>(
     h: Hold,
 ) -> io::Result<()> {
     let held = if number == 18 { "claimed" } else { "held" };
-    print!(rt; "{t} is {held} by {}", Holder(s, h))?;
+    print!(rt; ": {t} is {held} by {}", Holder(s, h))?;
     say_at_parent(rt, s, patch, h.port, t)
 }
 
@@ -119,9 +119,9 @@ fn say_of_holder<'a>(
 fn say_pair(rt: &impl Print, s: &[u8], t: Target, h: Hold, k: Hold) -> io::Result<()> {
     if h.port == k.port {
         let claims = Ways(Hold { own: false, ..h });
-        return print!(rt; "{} claims its own {t}{claims}", InTree(s, h.port));
+        return print!(rt; ": {} claims its own {t}{claims}", InTree(s, h.port));
     }
-    print!(rt; "{t} is held by {} and by {}", Holder(s, h), Holder(s, k))
+    print!(rt; ": {t} is held by {} and by {}", Holder(s, h), Holder(s, k))
 }
 
 // The particulars of a number that names no port: one of a patch is 30 or more.
@@ -132,46 +132,26 @@ fn say_unnamed(rt: &impl Print, s: &[u8], patch: &[u8], number: u8) -> io::Resul
     say_of_picture(rt, s, number)
 }
 
-// The particulars of a number that names its ports by their hold on a target.
-fn say_of_target<'a>(
-    rt: &impl Print,
-    s: &'a [u8],
-    patch: &'a [u8],
-    number: u8,
-    t: Target,
-    ports: Named,
-) -> io::Result<()> {
-    match ports {
-        Named::Holder(h) => say_of_holder(rt, s, patch, number, t, h),
-        Named::Pair(h, k) => say_pair(rt, s, t, h, k),
-        _ => Ok(()),
-    }
-}
-
-// The particulars of a number, with the target where it shows one.
+// The particulars of a number: of the ports that hold the target that it shows, of the port that it names, or of none.
 fn say_particulars<'a>(
     rt: &impl Print,
     s: &'a [u8],
     patch: &'a [u8],
-    number: u8,
-    shown: Option<Target>,
-    ports: Named,
+    f: Finding,
 ) -> io::Result<()> {
-    if let Some(t) = shown {
-        print!(rt; ": ")?;
-        return say_of_target(rt, s, patch, number, t, ports);
+    let number = f.number;
+    match (f.target, f.ports) {
+        (Some(t), Named::Holder(h)) => say_of_holder(rt, s, patch, number, t, h),
+        (Some(t), Named::Pair(h, k)) => say_pair(rt, s, t, h, k),
+        (None, Named::Port(p)) => say_of_port(rt, s, patch, number, p),
+        _ => say_unnamed(rt, s, patch, number),
     }
-    if let Named::Port(p) = ports {
-        print!(rt; ": ")?;
-        return say_of_port(rt, s, patch, number, p);
-    }
-    say_unnamed(rt, s, patch, number)
 }
 
 // The sentence for a finding, on a line of its own.
 fn print_finding<'a>(rt: &impl Print, s: &'a [u8], patch: &'a [u8], f: Finding) -> io::Result<()> {
     rt.print(fixed_text(f.number))?;
-    say_particulars(rt, s, patch, f.number, f.target, f.ports)?;
+    say_particulars(rt, s, patch, f)?;
     println!(rt; ".")
 }
 
