@@ -12,12 +12,11 @@ pub fn fpb_of(rid: u32, low: u32, high: u32, high_2: u32) -> Fpb
     ensures { result ≡ fpb_of rid low high high_2 }
 {
     Fpb {
-        capabilities: 0,
         rid_control_1: rid,
-        rid_control_2: 0,
         mem_low_control: low,
         mem_high_control_1: high,
         mem_high_control_2: high_2,
+        ..Fpb::default()
     }
 }
 
@@ -27,15 +26,9 @@ pub fn memory_of(base: u16, limit: u16) -> Bridge
 {
     Bridge {
         command: 2,
-        secondary: 0,
-        subordinate: 0,
         memory_base: base,
         memory_limit: limit,
-        prefetchable_base: 0,
-        prefetchable_limit: 0,
-        prefetchable_base_upper: 0,
-        prefetchable_limit_upper: 0,
-        bridge_control: 0,
+        ..Bridge::default()
     }
 }
 

@@ -10,7 +10,8 @@ use std::io;
 const HOST: u32 = 255;
 
 // What the words of the command line ask.
-struct Asked {
+#[derive(Clone, Copy)]
+struct Question {
     kind: Kind,
     start: u32,
     target: u64,
@@ -18,14 +19,14 @@ struct Asked {
 
 // The host, or the number of a port, which 255 is not.
 fn start_of(word: &[u8]) -> Option<u32> {
-    if word == b"host" {
-        return Some(HOST);
+    match word {
+        b"host" => Some(HOST),
+        _ => decimal(word).map(clamped).filter(|&port| port != HOST),
     }
-    decimal(word).map(clamped).filter(|&port| port != HOST)
 }
 
 // The kind, the start and the target, if there are these three words and they are as they must be.
-fn asked(rt: &impl Env) -> Option<Asked> {
+fn asked(rt: &impl Env) -> Option<Question> {
     if !inputs::has_word(rt, 3) || inputs::has_word(rt, 4) {
         return None;
     }
@@ -33,7 +34,7 @@ fn asked(rt: &impl Env) -> Option<Asked> {
     let kind = packet_kind(inputs::word(rt, 1, &mut buffer)?)?;
     let start = start_of(inputs::word(rt, 2, &mut buffer)?)?;
     let target = hexadecimal(inputs::word(rt, 3, &mut buffer)?)?;
-    Some(Asked {
+    Some(Question {
         kind,
         start,
         target,
