@@ -29,9 +29,12 @@ pub fn hexadecimal(word: &[u8]) -> Option<u64> {
     number(word.strip_prefix("0x").unwrap_or(word), 16)
 }
 
+// What every decimal number of a word is below.
+const DECIMAL_END: u64 = 1_000_000_000_000_000_000;
+
 // A number of at least one decimal digit, if it is below 10^18.
 pub fn decimal(word: &[u8]) -> Option<u64> {
-    number(str::from_utf8(word).ok()?, 10).filter(|&n| n < 1000000000000000000)
+    number(str::from_utf8(word).ok()?, 10).filter(|&n| n < DECIMAL_END)
 }
 
 // The kind of packet that a word names.

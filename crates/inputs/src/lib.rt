@@ -41,10 +41,8 @@ pub fn word<'a>(rt: &impl Env, i: usize, buffer: &'a mut [u8]) -> Option<&'a [u8
 pub fn open<R: Env + Files>(rt: &R, i: usize) -> io::Result<R::File> {
     let mut buffer = [0u8; 4096];
     let name = word(rt, i, &mut buffer).unwrap_or(b"");
-    match str::from_utf8(name) {
-        Ok(path) => File::open(rt, path),
-        Err(_) => Err(Error::from(ErrorKind::InvalidFilename)),
-    }
+    let path = str::from_utf8(name).map_err(|_| Error::from(ErrorKind::InvalidFilename))?;
+    File::open(rt, path)
 }
 
 // Says on standard error what failed, and behind it the system's reason in words.
