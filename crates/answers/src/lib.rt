@@ -28,32 +28,27 @@ pub struct Head {
 pub fn without_places(h: Head) -> [u8; ANSWER_BYTES]
     ensures { result ≡ answer_bytes h no_places }
 {
-    let port = h.port;
-    let second = h.second;
+    let Head {
+        number,
+        end,
+        port,
+        second,
+        crossings,
+        function,
+    } = h;
+    let head = [number, end, port.0, second.0, crossings, function, 0, 0];
     let mut out = [NO_PLACE; ANSWER_BYTES];
-    out[0] = h.number;
-    out[1] = h.end;
-    out[2] = port.0;
-    out[3] = second.0;
-    out[4] = h.crossings;
-    out[5] = h.function;
-    out[6] = 0;
-    out[7] = 0;
+    out[..8].copy_from_slice(&head);
     out
 }
 
 // An answer whose places are those of a path.
-#[tactic(auto, using(crate::proofs::Laws::Filled, crate::proofs::Laws::filled_all, crate::proofs::Laws::filled_more, crate::proofs::Laws::filled_none))]
+#[tactic(auto, unfolding(crate::specs::Answers::answer_bytes, crate::specs::Answers::head_bytes, crate::specs::Answers::no_places, crate::specs::Answers::path_places))]
 pub fn with_path(h: Head, places: [PortNo; 32]) -> [u8; ANSWER_BYTES]
     ensures { result ≡ answer_bytes h (path_places places) }
 {
     let mut out = without_places(h);
-    let mut i = 0;
-    while i < 32 {
-        let p = places[i];
-        out[8 + i] = p.0;
-        i += 1;
-    }
+    out[8..].copy_from_slice(&places.map(|p| p.0));
     out
 }
 
@@ -63,13 +58,6 @@ pub fn with_target(h: Head, t: u64) -> [u8; ANSWER_BYTES]
     ensures { result ≡ answer_bytes h (target_places t) }
 {
     let mut out = without_places(h);
-    out[8] = (t % 256) as u8;
-    out[9] = (t / 256 % 256) as u8;
-    out[10] = (t / 65536 % 256) as u8;
-    out[11] = (t / 16777216 % 256) as u8;
-    out[12] = (t / 4294967296 % 256) as u8;
-    out[13] = (t / 1099511627776 % 256) as u8;
-    out[14] = (t / 281474976710656 % 256) as u8;
-    out[15] = (t / 72057594037927936 % 256) as u8;
+    out[8..16].copy_from_slice(&t.to_le_bytes());
     out
 }

@@ -1,107 +1,66 @@
-// Words of the command line as numbers.
+// Words of the command line as numbers and kinds.
 #![tactic(auto)]
 
-// Whether two words are the same bytes.
-pub fn same(a: &[u8], b: &[u8]) -> bool {
-    a == b
+ghost use Rattle.std.specs.Prelude.{◌≡◌, ◌≢◌, ◌↔◌, ◌≤◌, Some, codes};
+ghost use Rattle.arguments.specs.declared.Kind.TheVariants.{Id, Addr, Config};
+
+// The kinds of the calls, by the numbers that they have for them.
+#[derive(Clone, Copy, PartialEq, Eq)]
+pub enum Kind {
+    Id = 0,
+    Addr = 1,
+    Config = 2,
 }
 
-// The value of a decimal digit or of a hexadecimal one of either case.
-fn digit(c: u8) -> Option<u64> {
-    if (48 <= c) & (c <= 57) {
-        return Some(c as u64 % 16);
-    }
-    if (97 <= c) & (c <= 102) {
-        return Some(c as u64 % 16 + 9);
-    }
-    if (65 <= c) & (c <= 70) {
-        return Some(c as u64 % 16 + 9);
-    }
-    None
-}
-
-// A number with one hexadecimal digit more, if 64 bits hold it.
-fn with_hexadecimal(value: u64, c: u8) -> Option<u64> {
-    let Some(d) = digit(c) else {
-        return None;
-    };
-    if value < 1152921504606846976 {
-        return Some(value * 16 + d % 16);
-    }
-    None
-}
-
-// A number with one decimal digit more, if it stays below 10^18.
-fn with_decimal(value: u64, c: u8) -> Option<u64> {
-    let Some(d) = digit(c) else {
-        return None;
-    };
-    if 10 <= d {
+// A number that these digits write, at least one of them, of either case.
+fn number(digits: &str, base: u32) -> Option<u64>
+    requires low { 2 ≤ base }
+    requires high { base ≤ 36 }
+{
+    if digits.starts_with('+') {
         return None;
     }
-    if value < 100000000000000000 {
-        return Some(value * 10 + d % 10);
-    }
-    None
+    u64::from_str_radix(digits, base).ok()
 }
 
-// A number of at least one hexadecimal digit, with or without 0x before it.
+// A number of at least one hexadecimal digit, with or without 0x before it, if 64 bits hold it.
 pub fn hexadecimal(word: &[u8]) -> Option<u64> {
-    let mut i = after_0x(word);
-    if word.len() <= i {
-        return None;
-    }
-    let mut value: u64 = 0;
-    while i < word.len() {
-        let Some(v) = with_hexadecimal(value, word[i]) else {
-            return None;
-        };
-        value = v;
-        i += 1;
-    }
-    Some(value)
+    let word = str::from_utf8(word).ok()?;
+    number(word.strip_prefix("0x").unwrap_or(word), 16)
 }
 
-// Where the digits begin: 2 behind `0x`, else 0.
-fn after_0x(word: &[u8]) -> usize {
-    if word.len() < 2 {
-        return 0;
-    }
-    if (word[0] == b'0') & (word[1] == b'x') {
-        return 2;
-    }
-    0
-}
+// What every decimal number of a word is below.
+const DECIMAL_END: u64 = 1_000_000_000_000_000_000;
 
-// A number of at least one decimal digit.
+// A number of at least one decimal digit, if it is below 10^18.
 pub fn decimal(word: &[u8]) -> Option<u64> {
-    if word.len() == 0 {
-        return None;
-    }
-    let mut value: u64 = 0;
-    let mut i = 0;
-    while i < word.len() {
-        let Some(v) = with_decimal(value, word[i]) else {
-            return None;
-        };
-        value = v;
-        i += 1;
-    }
-    Some(value)
+    number(str::from_utf8(word).ok()?, 10).filter(|&n| n < DECIMAL_END)
 }
 
-// The kind of target that a word names: 0 ID, 1 address.
-pub fn target_kind(word: &[u8]) -> Option<u64> {
-    if same(word, b"id") {
-        return Some(0);
+// The kind of packet that a word names.
+pub fn packet_kind(word: &[u8]) -> Option<Kind>
+    ensures id { (result ≡ Some Id) ↔ (word.now ≡ codes "id") }
+    ensures addr { (result ≡ Some Addr) ↔ (word.now ≡ codes "addr") }
+    ensures config { (result ≡ Some Config) ↔ (word.now ≡ codes "config") }
+{
+    match word {
+        b"id" => Some(Kind::Id),
+        b"addr" => Some(Kind::Addr),
+        b"config" => Some(Kind::Config),
+        _ => None,
     }
-    if same(word, b"addr") {
-        return Some(1);
-    }
-    None
+}
+
+// The kind of target that a word names: no configuration request.
+pub fn target_kind(word: &[u8]) -> Option<Kind>
+    ensures id { (result ≡ Some Id) ↔ (word.now ≡ codes "id") }
+    ensures addr { (result ≡ Some Addr) ↔ (word.now ≡ codes "addr") }
+    ensures others { result ≢ Some Config }
+{
+    packet_kind(word).filter(|&kind| kind != Kind::Config)
 }
 
 // A number as 32 bits hold it, the largest of them for any larger: no port has that number.
 pub fn clamped(n: u64) -> u32 {
-    if n < 4294967295 { n as u32 } else { 4294967295 }
+    u32::try_from(n).unwrap_or(u32::MAX)
 }

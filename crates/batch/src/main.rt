@@ -9,12 +9,11 @@ mod trials;
 use std::io;
 use std::io::Read;
 
-// What is kept from record to record: how many bytes of the buffers are the picture and the patch, and whether the batch is over.
+// What is kept from record to record: how many bytes of the buffers are the picture and the patch.
 #[derive(Clone, Copy)]
-struct Turn {
+struct Lengths {
     picture: usize,
     patch: usize,
-    over: bool,
 }
 
 // The record of a picture or a patch: its bytes, or as many of them as the buffer holds.
@@ -38,12 +37,16 @@ fn answer_trial<'a>(
 ) -> io::Result<bool> {
     match letter {
         b'X' => trials::print_trial(rt, picture, patch)?,
-        b'T' => trials::print_trial_check(rt, picture, patch)?,
+        b'T' => lines::print_call(rt, |answer| {
+            fiswalend::fpb_trial_check(picture, patch, answer)
+        })?,
         b'U' => {
             let kind = fields::take_u32(from)?;
             let start = fields::take_u32(from)?;
             let target = fields::take_u64(from)?;
-            trials::print_trial_walk(rt, picture, patch, kind, start, target)?;
+            lines::print_call(rt, |answer| {
+                fiswalend::fpb_trial_walk(picture, patch, answer, kind, start, target)
+            })?;
         }
         b'S' => {
             let port = fields::take_u32(from)?;
@@ -65,16 +68,22 @@ fn answer<'a>(
 ) -> io::Result<bool> {
     match letter {
         b'R' => lines::print_report(rt, picture)?,
-        b'C' => lines::print_check(rt, picture)?,
+        b'C' => lines::print_call(rt, |answer| fiswalend::fpb_check(picture, answer))?,
         b'W' => {
             let kind = fields::take_u32(from)?;
             let start = fields::take_u32(from)?;
-            lines::print_walk(rt, picture, kind, start, fields::take_u64(from)?)?;
+            let target = fields::take_u64(from)?;
+            lines::print_call(rt, |answer| {
+                fiswalend::fpb_walk(picture, answer, kind, start, target)
+            })?;
         }
         b'L' => {
             let port = fields::take_u32(from)?;
             let kind = fields::take_u32(from)?;
-            lines::print_claim(rt, picture, port, kind, fields::take_u64(from)?)?;
+            let target = fields::take_u64(from)?;
+            lines::print_written(rt, |decoders| {
+                fiswalend::fpb_claim(picture, port, kind, target, decoders)
+            })?;
         }
         b'H' => {
             let kind = fields::take_u32(from)?;
@@ -82,48 +91,41 @@ fn answer<'a>(
         }
         b'V' => {
             let port = fields::take_u32(from)?;
-            lines::print_conversion(rt, picture, port, fields::take_u64(from)?)?;
+            let id = fields::take_u64(from)?;
+            lines::print_written(rt, |decided| {
+                fiswalend::fpb_convert(picture, port, id, decided)
+            })?;
         }
         _ => return answer_trial(rt, from, picture, patch, letter),
     }
     Ok(true)
 }
 
+// Takes the next record, and answers it if it is a call; what is kept then, and nothing where the batch is over.
 fn take_record(
     rt: &impl Print,
     from: &mut impl Read,
     pictures: &mut [u8],
     patches: &mut [u8],
-    picture: usize,
-    patch: usize,
-) -> io::Result<Turn> {
+    kept: Lengths,
+) -> io::Result<Option<Lengths>> {
     let letter = fields::take_letter(from)?;
     if letter == b'P' {
-        return Ok(Turn {
-            picture: take_bytes(from, pictures)?,
-            patch,
-            over: false,
-        });
+        let picture = take_bytes(from, pictures)?;
+        return Ok(Some(Lengths { picture, ..kept }));
     }
     if letter == b'Q' {
-        return Ok(Turn {
-            picture,
-            patch: take_bytes(from, patches)?,
-            over: false,
-        });
+        let patch = take_bytes(from, patches)?;
+        return Ok(Some(Lengths { patch, ..kept }));
     }
     let answered = answer(
         rt,
         from,
-        lent::part(pictures, 0, picture),
-        lent::part(patches, 0, patch),
+        lent::part(pictures, 0, kept.picture),
+        lent::part(patches, 0, kept.patch),
         letter,
     )?;
-    Ok(Turn {
-        picture,
-        patch,
-        over: !answered,
-    })
+    Ok(answered.then_some(kept))
 }
 
 fn main(rt: HostRuntime) -> io::Result<()> {
@@ -132,17 +134,15 @@ fn main(rt: HostRuntime) -> io::Result<()> {
     let pictures: &mut [u8] = &mut picture_buffer;
     let patches: &mut [u8] = &mut patch_buffer;
     let mut from = rt.stdin();
-    let mut picture: usize = 0;
-    let mut patch: usize = 0;
-    let mut left: u64 = 18446744073709551615;
-    while 0 < left {
-        let next = take_record(&rt, &mut from, pictures, patches, picture, patch)?;
-        if next.over {
+    let mut kept = Lengths {
+        picture: 0,
+        patch: 0,
+    };
+    for _ in 0..u64::MAX {
+        let Some(next) = take_record(&rt, &mut from, pictures, patches, kept)? else {
             return Ok(());
-        }
-        picture = next.picture;
-        patch = next.patch;
-        left -= 1;
+        };
+        kept = next;
     }
     Ok(())
 }

@@ -1,66 +1,64 @@
-// Printing what the code answers.
+// What the code answers, in words.
 use chassis::{Conversion, End};
 use picture::Refusal;
 use routes::Walked;
-use std::io;
-
-// The name of a case, which begins its line.
-pub fn case(rt: &impl Print, n: u64) -> io::Result<()> {
-    print!(rt; "C{n}")
-}
-
-// The end of a line.
-pub fn end(rt: &impl Print) -> io::Result<()> {
-    rt.print("\n")
-}
+use std::fmt;
 
 // The entry that applies, or that none does.
-pub fn entry(rt: &impl Print, found: Option<u64>) -> io::Result<()> {
-    match found {
-        Some(i) => print!(rt; " entry {i}"),
-        None => rt.print(" no entry"),
+#[derive(Clone, Copy)]
+pub struct Entry(pub Option<u64>);
+
+impl fmt::Display for Entry {
+    fn fmt<W: fmt::Write>(&self, f: &mut fmt::Formatter<W>) -> fmt::Result {
+        match self.0 {
+            Some(i) => write!(f, "entry {i}"),
+            None => write!(f, "no entry"),
+        }
     }
 }
 
 // Whether a decoder claims.
-pub fn claimed(rt: &impl Print, claimed: bool) -> io::Result<()> {
-    if claimed {
-        rt.print(" claimed")
-    } else {
-        rt.print(" not claimed")
-    }
+pub fn claimed(claims: bool) -> &'static str {
+    if claims { "claimed" } else { "not claimed" }
 }
 
 // What a port decides, in the words of the paper.
-pub fn conversion(rt: &impl Print, made: Conversion) -> io::Result<()> {
+fn decided(made: Conversion) -> &'static str {
     match made {
-        Conversion::NotClaimed => rt.print(" not claimed"),
-        Conversion::Type0 => rt.print(" Type 0"),
-        Conversion::Type1 => rt.print(" Type 1"),
-        Conversion::Unsupported => rt.print(" Unsupported Request"),
+        Conversion::NotClaimed => "not claimed",
+        Conversion::Type0 => "Type 0",
+        Conversion::Type1 => "Type 1",
+        Conversion::Unsupported => "Unsupported Request",
     }
 }
 
 // What the conversion call answers.
-pub fn answer(rt: &impl Print, answer: Result<Conversion, Refusal>) -> io::Result<()> {
-    match answer {
-        Err(r) => {
-            let number = r.number;
-            print!(rt; " refused {number}")
+#[derive(Clone, Copy)]
+pub struct Answer(pub Result<Conversion, Refusal>);
+
+impl fmt::Display for Answer {
+    fn fmt<W: fmt::Write>(&self, f: &mut fmt::Formatter<W>) -> fmt::Result {
+        match self.0 {
+            Err(r) => write!(f, "refused {}", r.number),
+            Ok(made) => write!(f, "{}", decided(made)),
         }
-        Ok(made) => conversion(rt, made),
     }
 }
 
-// The Function number of a configuration request that ends at a device.
-pub fn function(rt: &impl Print, answer: Result<Walked, Refusal>) -> io::Result<()> {
-    match answer {
-        Ok(
-            Walked {
-                end: End::Device(_, number),
-                ..
-            },
-        ) => print!(rt; " Function {number}"),
-        _ => Ok(()),
+// The Function number of a configuration request that ends at a device; nothing of any other walk.
+#[derive(Clone, Copy)]
+pub struct FunctionOf(pub Result<Walked, Refusal>);
+
+impl fmt::Display for FunctionOf {
+    fn fmt<W: fmt::Write>(&self, f: &mut fmt::Formatter<W>) -> fmt::Result {
+        match self.0 {
+            Ok(
+                Walked {
+                    end: End::Device(_, number),
+                    ..
+                },
+            ) => write!(f, " Function {number}"),
+            _ => Ok(()),
+        }
     }
 }

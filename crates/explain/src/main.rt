@@ -5,41 +5,42 @@
 use std::io;
 use std::io::Read;
 
-fn print_lines(rt: &impl Print, picture: &[u8]) -> io::Result<()> {
-    reports::report_lines(picture).print(rt)?;
-    people::print_sentence(rt, picture)
+fn print_lines<'a>(rt: &impl Print, picture: &'a [u8], patch: Option<&'a [u8]>) -> io::Result<()> {
+    match patch {
+        None => {
+            reports::report_lines(picture).print(rt)?;
+            people::print_sentence(rt, picture)
+        }
+        Some(patch) => {
+            reports::trial_lines(picture, patch).print(rt)?;
+            people::print_trial_sentence(rt, picture, patch)
+        }
+    }
 }
 
-fn print_trial_lines<'a>(rt: &impl Print, picture: &'a [u8], patch: &'a [u8]) -> io::Result<()> {
-    reports::trial_lines(picture, patch).print(rt)?;
-    people::print_trial_sentence(rt, picture, patch)
+// What is said of the picture, which is read so far that one byte more than it may have shows, and of the patch.
+fn explain(rt: &HostRuntime, patch: Option<&[u8]>) -> io::Result<()> {
+    let mut picture = [0u8; 65537];
+    let n = inputs::read_full(&mut rt.stdin(), &mut picture)?;
+    print_lines(rt, &picture[..n], patch)
 }
 
-// The picture, read so far that one byte more than it may have shows.
-fn explain(rt: HostRuntime) -> io::Result<()> {
-    let mut buffer = [0u8; 65537];
-    let n = inputs::read_full(&mut rt.stdin(), &mut buffer)?;
-    print_lines(&rt, &buffer[..n])
-}
-
-// The same of the picture and a patch; of a longer file the first 131,073 bytes are judged.
-fn explain_trial(rt: HostRuntime, file: &mut impl Read) -> io::Result<()> {
+// The same with a patch; of a longer file the first 131,073 bytes are judged.
+fn explain_trial(rt: &HostRuntime, file: &mut impl Read) -> io::Result<()> {
     let mut patch = [0u8; 131073];
     let n = inputs::read_full(file, &mut patch)?;
-    let mut picture = [0u8; 65537];
-    let m = inputs::read_full(&mut rt.stdin(), &mut picture)?;
-    print_trial_lines(&rt, &picture[..m], &patch[..n])
+    explain(rt, Some(&patch[..n]))
 }
 
 fn main(rt: HostRuntime) -> io::Result<()> {
-    if !inputs::has_word(&rt, 1) {
-        return explain(rt);
-    }
     if inputs::has_word(&rt, 2) {
         return eprintln!(rt; "usage: explain [PATCH] <PICTURE");
     }
+    if !inputs::has_word(&rt, 1) {
+        return explain(&rt, None);
+    }
     match inputs::open(&rt, 1) {
-        Ok(mut file) => explain_trial(rt, &mut file),
+        Ok(mut file) => explain_trial(&rt, &mut file),
         Err(error) => inputs::say_failed(&rt, "explain: the patch cannot be opened", error),
     }
 }

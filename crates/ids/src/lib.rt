@@ -1,6 +1,8 @@
 // Port numbers, IDs and units: three types, so that none stands for another; and what a packet is sent to.
 #![tactic(auto)]
 
+mod shown;
+
 ghost use Rattle.std.specs.Prelude.{◌≡◌};
 ghost use Rattle.ids.specs.Ids.{bus_of, device_of, function_of, unit_of};
 

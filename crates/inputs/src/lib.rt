@@ -1,7 +1,7 @@
 // What the programs take: bytes of a stream or a file, into buffers that the caller lends, and the words of the command line.
 #![tactic(auto)]
 
-ghost use Rattle.std.specs.Prelude.{◌≤◌, length, IfOk};
+ghost use Rattle.std.specs.Prelude.{◌≤◌, length, IfOk, IfSome};
 
 use std::env::{Env, FillError};
 use std::fs::{File, Files};
@@ -29,24 +29,20 @@ pub fn has_word(rt: &impl Env, i: usize) -> bool {
     !matches!(rt.arg(i, &mut first), Err(FillError::NotPresent))
 }
 
-// Word i at the start of a buffer; its length, 0 for one that is missing or longer than the buffer.
-pub fn word(rt: &impl Env, i: usize, buffer: &mut [u8]) -> usize
-    ensures { result ≤ length buffer.new }
+// Word i, for which a buffer is lent; none that is missing or longer than the buffer.
+pub fn word<'a>(rt: &impl Env, i: usize, buffer: &'a mut [u8]) -> Option<&'a [u8]>
+    ensures { IfSome result (λ word. length word.now ≤ length buffer.old) }
 {
-    match rt.arg(i, buffer) {
-        Ok(n) => n,
-        Err(_) => 0,
-    }
+    let n = rt.arg(i, buffer).ok()?;
+    Some(&buffer[..n])
 }
 
 // The file that word i names, opened for reading.
 pub fn open<R: Env + Files>(rt: &R, i: usize) -> io::Result<R::File> {
-    let mut name = [0u8; 4096];
-    let length = word(rt, i, &mut name);
-    match str::from_utf8(&name[..length]) {
-        Ok(path) => File::open(rt, path),
-        Err(_) => Err(Error::from(ErrorKind::InvalidFilename)),
-    }
+    let mut buffer = [0u8; 4096];
+    let name = word(rt, i, &mut buffer).unwrap_or(b"");
+    let path = str::from_utf8(name).map_err(|_| Error::from(ErrorKind::InvalidFilename))?;
+    File::open(rt, path)
 }
 
 // Says on standard error what failed, and behind it the system's reason in words.
@@ -55,12 +51,7 @@ pub fn say_failed(rt: &impl Eprint, what: &str, error: Error) -> io::Result<()> 
     let mut said = Cursor::new(&mut buffer[..]);
     write!(said, "{error}")?;
     let end = said.position();
-    let text = match str::from_utf8(lent::part(&buffer, 0, end as usize)) {
-        Ok(text) => text,
-        Err(_) => "",
-    };
-    match text.split_once(" (os error ") {
-        Some((reason, _)) => eprintln!(rt; "{what}: {reason}"),
-        None => eprintln!(rt; "{what}: {text}"),
-    }
+    let text = str::from_utf8(lent::part(&buffer, 0, end as usize)).unwrap_or("");
+    let reason = text.split_once(" (os error ").map_or(text, |parts| parts.0);
+    eprintln!(rt; "{what}: {reason}")
 }

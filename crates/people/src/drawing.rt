@@ -4,27 +4,25 @@ ghost use Rattle.trees.specs.Trees.{count_of};
 
 use crate::lines::say_line;
 use crate::neighbours::{above, child_from, following, has_later_sibling};
-use crate::words::say;
 use ids::PortNo;
 use std::io;
+use std::iter::successors;
 
 // The three columns of a port above: a bar where a sibling of it follows further down.
-fn say_bar(rt: &impl Print, s: &[u8], n: u8, p: PortNo) -> io::Result<()> {
-    if p.0 == PortNo::NONE.0 {
-        return Ok(());
-    }
+fn bar(s: &[u8], n: u8, p: PortNo) -> &'static str {
     if has_later_sibling(s, n, p) {
-        return say(rt, b"|  ");
+        "|  "
+    } else {
+        "   "
     }
-    say(rt, b"   ")
 }
 
 // The columns of all ports above, of which there are at most 15, from the root port down.
 fn say_bars(rt: &impl Print, s: &[u8], n: u8, p: PortNo) -> io::Result<()> {
-    let mut steps: u8 = 15;
-    while 0 < steps {
-        say_bar(rt, s, n, above(s, p, steps))?;
-        steps -= 1;
+    for steps in (1..16).rev() {
+        if let Some(q) = above(s, p, steps) {
+            rt.print(bar(s, n, q))?;
+        }
     }
     Ok(())
 }
@@ -32,34 +30,22 @@ fn say_bars(rt: &impl Print, s: &[u8], n: u8, p: PortNo) -> io::Result<()> {
 // What stands before a port: the first is port 0.
 fn say_branch(rt: &impl Print, s: &[u8], n: u8, p: PortNo) -> io::Result<()> {
     let later = has_later_sibling(s, n, p);
-    if p.0 == 0 {
-        if later {
-            return say(rt, b"-+-");
-        }
-        return say(rt, b"---");
+    if p == PortNo(0) {
+        return rt.print(if later { "-+-" } else { "---" });
     }
-    say(rt, b" ")?;
+    rt.print(" ")?;
     say_bars(rt, s, n, p)?;
-    if later {
-        return say(rt, b"+-");
-    }
-    say(rt, b"\\-")
+    rt.print(if later { "+-" } else { "\\-" })
 }
 
 // All lines of the tree, where n is the count of ports.
 fn draw(rt: &impl Print, s: &[u8], n: u8) -> io::Result<()>
     requires { n ≡ count_of s.now }
 {
-    let mut p = child_from(s, n, 0, PortNo::ROOT);
-    let mut left = n;
-    while 0 < left {
-        if p.0 == PortNo::NONE.0 {
-            return Ok(());
-        }
+    let first = child_from(s, n, 0, PortNo::ROOT);
+    for p in successors(first, |&p| following(s, n, p)).take(n as usize) {
         say_branch(rt, s, n, p)?;
         say_line(rt, s, n, p)?;
-        p = following(s, n, p);
-        left -= 1;
     }
     Ok(())
 }

@@ -1,37 +1,45 @@
 // How a port holds a target: as its own ID, and through its decoders.
-use crate::ports::say_port;
-use crate::words::say;
-use chassis::{Decoders, Hold};
-use std::io;
+use crate::ports::InTree;
+use chassis::Hold;
+use std::fmt;
 
-// One way to hold the target, if it applies, with ` and` before it if another has been said; whether one has been said then.
-fn say_way(rt: &impl Print, applies: bool, said: bool, way: &[u8]) -> io::Result<bool> {
-    if !applies {
-        return Ok(said);
+// ` as its own ID and through its RID vector`: each way that applies.
+#[derive(Clone, Copy)]
+pub struct Ways(pub Hold);
+
+impl fmt::Display for Ways {
+    fn fmt<W: fmt::Write>(&self, f: &mut fmt::Formatter<W>) -> fmt::Result {
+        let hold = self.0;
+        let by = hold.decoders;
+        let ways = [
+            (hold.own, "as its own ID"),
+            (by.bus, "through its bus range"),
+            (by.rid, "through its RID vector"),
+            (by.mem, "through its memory window"),
+            (by.pref, "through its prefetchable window"),
+            (by.low, "through its MEM Low vector"),
+            (by.high, "through its MEM High vector"),
+            (by.vga, "through its video range"),
+        ];
+        let mut said = false;
+        for (applies, way) in ways {
+            if applies {
+                let before = if said { " and " } else { " " };
+                write!(f, "{before}{way}")?;
+                said = true;
+            }
+        }
+        Ok(())
     }
-    if said {
-        say(rt, b" and")?;
-    }
-    say(rt, way)?;
-    Ok(true)
 }
 
-// ` through its bus range and through its RID vector`; `said` tells that another way has been said.
-pub fn say_decoders(rt: &impl Print, d: Decoders, said: bool) -> io::Result<()> {
-    let bus = say_way(rt, d.bus, said, b" through its bus range")?;
-    let rid = say_way(rt, d.rid, bus, b" through its RID vector")?;
-    let mem = say_way(rt, d.mem, rid, b" through its memory window")?;
-    let pref = say_way(rt, d.pref, mem, b" through its prefetchable window")?;
-    let low = say_way(rt, d.low, pref, b" through its MEM Low vector")?;
-    let high = say_way(rt, d.high, low, b" through its MEM High vector")?;
-    say_way(rt, d.vga, high, b" through its video range")?;
-    Ok(())
-}
+// `port 3 (..) as its own ID and through its RID vector`, in this picture.
+#[derive(Clone, Copy)]
+pub struct Holder<'a>(pub &'a [u8], pub Hold);
 
-// `port 3 (..) as its own ID and through its RID vector`.
-pub fn say_holder(rt: &impl Print, s: &[u8], h: Hold) -> io::Result<()> {
-    let decoders = h.decoders;
-    say_port(rt, s, h.port)?;
-    let said = say_way(rt, h.own, false, b" as its own ID")?;
-    say_decoders(rt, decoders, said)
+impl fmt::Display for Holder<'_> {
+    fn fmt<W: fmt::Write>(&self, f: &mut fmt::Formatter<W>) -> fmt::Result {
+        let hold = self.1;
+        write!(f, "{}{}", InTree(self.0, hold.port), Ways(hold))
+    }
 }

@@ -1,10 +1,10 @@
 // The sentence of a number: its fixed text, then the particulars of the picture and the patch.
 use crate::causes::{say_wrong_settings, say_wrong_starts};
-use crate::fixed::say_fixed;
-use crate::holding::{say_decoders, say_holder};
+use crate::fixed::fixed_text;
+use crate::holding::{Holder, Ways};
 use crate::patching::say_of_patch;
-use crate::ports::{say_number_of, say_port, say_tree_breaker};
-use crate::words::{say, say_bytes, say_number, say_target};
+use crate::ports::{InTree, say_tree_breaker};
+use crate::words::Counted;
 use chassis::{Conversion, Finding, Hold, Named};
 use ids::{PortNo, Target};
 use lent::{u16_at, u32_at};
@@ -13,55 +13,51 @@ use std::io;
 
 // Number 1: the input is read only so far that a longer one shows.
 fn say_length(rt: &impl Print, length: usize) -> io::Result<()> {
-    say(rt, b": it has ")?;
     if 65536 < length {
-        return say(rt, b"more than 65,536");
+        return print!(rt; ": it has more than 65,536");
     }
-    say_bytes(rt, length)
+    print!(rt; ": it has {}", Counted(length, "byte"))
 }
 
 // Number 3.
 fn say_count(rt: &impl Print, count: u16) -> io::Result<()> {
-    say(rt, b": it has ")?;
     if count == 0 {
-        return say(rt, b"none");
+        return print!(rt; ": it has none");
     }
-    say_number(rt, count as u64)
+    print!(rt; ": it has {count}")
 }
 
 // The particulars of numbers 0 to 5; number 5 has none.
 fn say_of_picture(rt: &impl Print, s: &[u8], number: u8) -> io::Result<()> {
     match number {
-        0 => say(
-            rt,
-            b": no ID or address has two holders at one place, no port holds what its parent does not claim, and the host's configuration requests find every port",
+        0 => print!(rt;
+            ": no ID or address has two holders at one place, no port holds what its parent does not claim, and the host's configuration requests find every port"
         ),
         1 => say_length(rt, s.len()),
-        2 => {
-            say(rt, b": it is ")?;
-            say_number(rt, edition_of(s) as u64)
-        }
+        2 => print!(rt; ": it is {}", edition_of(s)),
         3 => say_count(rt, u16_at(s, 2)),
-        4 => {
-            say(rt, b": the header says ")?;
-            say_number(rt, u32_at(s, 4) as u64)?;
-            say(rt, b", and the picture has ")?;
-            say_bytes(rt, s.len())
-        }
+        4 => print!(rt;
+            ": the header says {}, and the picture has {}",
+            u32_at(s, 4),
+            Counted(s.len(), "byte")
+        ),
         _ => Ok(()),
     }
 }
 
 // Number 10, which names no port if it is about the end of the last vectors.
 fn say_misplaced(rt: &impl Print, s: &[u8], p: PortNo) -> io::Result<()> {
-    if p.0 == PortNo::NONE.0 {
-        say(rt, b"the last ones do not, and the picture has ")?;
-        return say_bytes(rt, s.len());
+    if p == PortNo::NONE {
+        return print!(rt;
+            ": the last ones do not, and the picture has {}",
+            Counted(s.len(), "byte")
+        );
     }
-    say(rt, b"those of ")?;
-    say_port(rt, s, p)?;
-    say(rt, b" begin at byte ")?;
-    say_number(rt, port_at(s, p).vectors_at as u64)
+    print!(rt;
+        ": those of {} begin at byte {}",
+        InTree(s, p),
+        port_at(s, p).vectors_at
+    )
 }
 
 // What the parent of port p makes of a target that the port holds; no port makes anything of an address.
@@ -73,17 +69,13 @@ fn say_at_parent<'a>(
     t: Target,
 ) -> io::Result<()> {
     let parent = parent_at(s, p);
-    say(rt, b", and ")?;
-    say_number_of(rt, parent)?;
-    match claims::conversion(s, patch, parent, t) {
-        Conversion::NotClaimed => say(rt, b" does not claim it"),
-        Conversion::Type0 => say(rt, b" makes configuration requests for it Type 0"),
-        Conversion::Type1 => say(rt, b" passes configuration requests for it on as Type 1"),
-        Conversion::Unsupported => say(
-            rt,
-            b" answers configuration requests for it with Unsupported Request",
-        ),
-    }
+    let does = match claims::conversion(s, patch, parent, t) {
+        Conversion::NotClaimed => "does not claim it",
+        Conversion::Type0 => "makes configuration requests for it Type 0",
+        Conversion::Type1 => "passes configuration requests for it on as Type 1",
+        Conversion::Unsupported => "answers configuration requests for it with Unsupported Request",
+    };
+    print!(rt; ", and port {parent} {does}")
 }
 
 // The particulars of a number that names one port and no target.
@@ -100,7 +92,7 @@ fn say_of_port<'a>(
     if number == 10 {
         return say_misplaced(rt, s, p);
     }
-    say_port(rt, s, p)?;
+    print!(rt; ": {}", InTree(s, p))?;
     match number {
         8 => say_wrong_settings(rt, s, p),
         9 => say_wrong_starts(rt, s, p),
@@ -118,29 +110,18 @@ fn say_of_holder<'a>(
     t: Target,
     h: Hold,
 ) -> io::Result<()> {
-    say_target(rt, t)?;
-    if number == 18 {
-        say(rt, b" is claimed by ")?;
-    } else {
-        say(rt, b" is held by ")?;
-    }
-    say_holder(rt, s, h)?;
+    let held = if number == 18 { "claimed" } else { "held" };
+    print!(rt; ": {t} is {held} by {}", Holder(s, h))?;
     say_at_parent(rt, s, patch, h.port, t)
 }
 
 // Numbers 11 and 12; a port that claims its own ID is a pair with itself.
 fn say_pair(rt: &impl Print, s: &[u8], t: Target, h: Hold, k: Hold) -> io::Result<()> {
-    if h.port.0 == k.port.0 {
-        say_port(rt, s, h.port)?;
-        say(rt, b" claims its own ")?;
-        say_target(rt, t)?;
-        return say_decoders(rt, h.decoders, false);
+    if h.port == k.port {
+        let claims = Ways(Hold { own: false, ..h });
+        return print!(rt; ": {} claims its own {t}{claims}", InTree(s, h.port));
     }
-    say_target(rt, t)?;
-    say(rt, b" is held by ")?;
-    say_holder(rt, s, h)?;
-    say(rt, b" and by ")?;
-    say_holder(rt, s, k)
+    print!(rt; ": {t} is held by {} and by {}", Holder(s, h), Holder(s, k))
 }
 
 // The particulars of a number that names no port: one of a patch is 30 or more.
@@ -151,50 +132,27 @@ fn say_unnamed(rt: &impl Print, s: &[u8], patch: &[u8], number: u8) -> io::Resul
     say_of_picture(rt, s, number)
 }
 
-// The particulars of a number that names its ports by their hold on a target.
-fn say_of_target<'a>(
-    rt: &impl Print,
-    s: &'a [u8],
-    patch: &'a [u8],
-    number: u8,
-    t: Target,
-    ports: Named,
-) -> io::Result<()> {
-    match ports {
-        Named::Holder(h) => say_of_holder(rt, s, patch, number, t, h),
-        Named::Pair(h, k) => say_pair(rt, s, t, h, k),
-        _ => Ok(()),
-    }
-}
-
-// The particulars of a number, with the target where it shows one.
+// The particulars of a number: of the ports that hold the target that it shows, of the port that it names, or of none.
 fn say_particulars<'a>(
     rt: &impl Print,
     s: &'a [u8],
     patch: &'a [u8],
-    number: u8,
-    shown: Option<Target>,
-    ports: Named,
+    f: Finding,
 ) -> io::Result<()> {
-    if let Some(t) = shown {
-        say(rt, b": ")?;
-        return say_of_target(rt, s, patch, number, t, ports);
+    let number = f.number;
+    match (f.target, f.ports) {
+        (Some(t), Named::Holder(h)) => say_of_holder(rt, s, patch, number, t, h),
+        (Some(t), Named::Pair(h, k)) => say_pair(rt, s, t, h, k),
+        (None, Named::Port(p)) => say_of_port(rt, s, patch, number, p),
+        _ => say_unnamed(rt, s, patch, number),
     }
-    if let Named::Port(p) = ports {
-        say(rt, b": ")?;
-        return say_of_port(rt, s, patch, number, p);
-    }
-    say_unnamed(rt, s, patch, number)
 }
 
 // The sentence for a finding, on a line of its own.
 fn print_finding<'a>(rt: &impl Print, s: &'a [u8], patch: &'a [u8], f: Finding) -> io::Result<()> {
-    let number = f.number;
-    let target = f.target;
-    let ports = f.ports;
-    say_fixed(rt, number)?;
-    say_particulars(rt, s, patch, number, target, ports)?;
-    say(rt, b".\n")
+    rt.print(fixed_text(f.number))?;
+    say_particulars(rt, s, patch, f)?;
+    println!(rt; ".")
 }
 
 // The sentence for what the check says of a picture.

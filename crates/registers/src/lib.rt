@@ -19,7 +19,7 @@ pub use records::{
 pub use rules::{settings_wrong, start_wrong, with_ari, with_redirect};
 
 // What a record is about: a Type 1 header's registers.
-#[derive(Clone, Copy)]
+#[derive(Clone, Copy, Default)]
 pub struct Bridge {
     pub command: u16,
     pub secondary: u8,
@@ -34,7 +34,7 @@ pub struct Bridge {
 }
 
 // The registers of the Flattening Portal Bridge capability.
-#[derive(Clone, Copy)]
+#[derive(Clone, Copy, Default)]
 pub struct Fpb {
     pub capabilities: u32,
     pub rid_control_1: u32,

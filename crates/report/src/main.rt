@@ -4,13 +4,9 @@
 
 use std::io;
 
-fn print_lines(rt: &impl Print, picture: &[u8]) -> io::Result<()> {
-    reports::report_lines(picture).print(rt)
-}
-
 // One byte more than a picture may have, so that a longer input shows.
 fn main(rt: HostRuntime) -> io::Result<()> {
     let mut buffer = [0u8; 65537];
     let n = inputs::read_full(&mut rt.stdin(), &mut buffer)?;
-    print_lines(&rt, &buffer[..n])
+    reports::report_lines(&buffer[..n]).print(&rt)
 }

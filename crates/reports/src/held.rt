@@ -40,19 +40,16 @@ fn print_lines(
     end: u8,
 ) -> io::Result<bool> {
     let count = lent::u16_at(picture, 2) as u32;
-    let between = [end];
     let mut held = false;
-    let mut port: u32 = 0;
-    while port < count {
+    for port in 0..count {
         let text = claim_text(claim(picture, port, kind, target));
         if 0 < text.length {
             if held {
-                Text::new().with(&between).print(rt)?;
+                rt.write_all(&[end])?;
             }
             text.print(rt)?;
             held = true;
         }
-        port += 1;
     }
     Ok(held)
 }
@@ -66,11 +63,11 @@ pub fn print_holders(
     end: u8,
 ) -> io::Result<()> {
     let first = claim(picture, 0, kind, target);
-    let Ok(_) = first else {
+    if first.is_err() {
         return claim_text(first).with(b"\n").print(rt);
-    };
-    if !print_lines(rt, picture, kind, target, end)? {
-        Text::new().with(b"nobody").print(rt)?;
     }
-    Text::new().with(b"\n").print(rt)
+    if !print_lines(rt, picture, kind, target, end)? {
+        print!(rt; "nobody")?;
+    }
+    println!(rt)
 }

@@ -2,74 +2,54 @@
 // a device port, TARGET a number in hexadecimal.
 #![tactic(auto)]
 
+use arguments::{Kind, clamped, decimal, hexadecimal, packet_kind};
 use std::env::Env;
 use std::io;
 
-// The packet kind that a word names: 0 ID, 1 address, 2 configuration request.
-fn kind_of(word: &[u8]) -> Option<u64> {
-    if arguments::same(word, b"config") {
-        return Some(2);
-    }
-    arguments::target_kind(word)
-}
+// The start that is the host, by the number that the calls have for it; no port has it.
+const HOST: u32 = 255;
 
-// The start that is the host; no port has this number.
-const HOST: u64 = 255;
+// What the words of the command line ask.
+#[derive(Clone, Copy)]
+struct Question {
+    kind: Kind,
+    start: u32,
+    target: u64,
+}
 
 // The host, or the number of a port, which 255 is not.
-fn start_of(word: &[u8]) -> Option<u64> {
-    if arguments::same(word, b"host") {
-        return Some(HOST);
+fn start_of(word: &[u8]) -> Option<u32> {
+    match word {
+        b"host" => Some(HOST),
+        _ => decimal(word).map(clamped).filter(|&port| port != HOST),
     }
-    let Some(port) = arguments::decimal(word) else {
-        return None;
-    };
-    if port == HOST {
-        return None;
-    }
-    Some(port)
 }
 
-// The number that argument i stands for: the packet kind, the start and the target, in this order.
-fn argument(rt: &impl Env, i: usize) -> Option<u64> {
-    let mut word = [0u8; 32];
-    let n = inputs::word(rt, i, &mut word);
-    if i == 1 {
-        return kind_of(&word[..n]);
+// The kind, the start and the target, if there are these three words and they are as they must be.
+fn asked(rt: &impl Env) -> Option<Question> {
+    if !inputs::has_word(rt, 3) || inputs::has_word(rt, 4) {
+        return None;
     }
-    if i == 2 {
-        return start_of(&word[..n]);
-    }
-    arguments::hexadecimal(&word[..n])
-}
-
-// What is said to arguments that are not as they must be.
-fn print_usage(rt: &impl Eprint) -> io::Result<()> {
-    eprintln!(rt;
-        "usage: route id|addr|config START TARGET <PICTURE; START is host or a device port's number, TARGET is hexadecimal"
-    )
+    let mut buffer = [0u8; 32];
+    let kind = packet_kind(inputs::word(rt, 1, &mut buffer)?)?;
+    let start = start_of(inputs::word(rt, 2, &mut buffer)?)?;
+    let target = hexadecimal(inputs::word(rt, 3, &mut buffer)?)?;
+    Some(Question {
+        kind,
+        start,
+        target,
+    })
 }
 
 fn main(rt: HostRuntime) -> io::Result<()> {
-    if !inputs::has_word(&rt, 3) | inputs::has_word(&rt, 4) {
-        return print_usage(&rt);
-    }
-    let Some(kind) = argument(&rt, 1) else {
-        return print_usage(&rt);
+    let Some(question) = asked(&rt) else {
+        return eprintln!(rt;
+            "usage: route id|addr|config START TARGET <PICTURE; START is host or a device port's number, TARGET is hexadecimal"
+        );
     };
-    let Some(start) = argument(&rt, 2) else {
-        return print_usage(&rt);
-    };
-    let Some(target) = argument(&rt, 3) else {
-        return print_usage(&rt);
-    };
+    let kind = question.kind as u32;
     let mut buffer = [0u8; 65537];
     let n = inputs::read_full(&mut rt.stdin(), &mut buffer)?;
-    let answer = judge::walk(
-        &buffer[..n],
-        arguments::clamped(kind),
-        arguments::clamped(start),
-        target,
-    );
-    reports::walk_lines(arguments::clamped(kind), answer).print(&rt)
+    let answer = judge::walk(&buffer[..n], kind, question.start, question.target);
+    reports::walk_lines(kind, answer).print(&rt)
 }

@@ -6,12 +6,12 @@ use mathlib.Core.List.{List, [], ◌∷◌, ◌++◌, append_assoc, append-nil}
 use mathlib.Core.Path.{◌≡◌, refl, ap, ◌∙◌}
 use native.Mathlib.Decide.{dec_lt}
 use native.Mathlib.Nat.{pow-succ', one-le-pow, pow-le-pow_right}
-use native.Mathlib.Numerals.{add-one}
 use native.Mathlib.Omega.{arith}
 use borrow.Author.Tests.{lt-ltb, le-ltb, ltb-true, ltb-false}
 use lib.Dec.{ltb}
-use lib.ListN.{length, replicate, set, take, get_or, length-append, length-take}
-use lib.Seq.{take_all, take-suc, take-append-le}
+use lib.ListN.{length, replicate, set, take, length-append, length-take}
+use lib.Seq.{take_all, take-append-le}
+use Rattle.std.specs.List.{fold}
 use Rattle.ids.specs.declared.PortNo.{PortNo}
 use Rattle.io.specs.Digits.{last_digits, hex_digit_ascii, IsDigitCount}
 use Rattle.texts.specs.declared.Text.{Text}
@@ -72,27 +72,17 @@ behind text xs ys first then = then ∙ ap (λ (s : Text). appended s ys) first 
 pub begun : (xs ys : List ℕ) {t r : Text} → t ≡ text_of xs → r ≡ appended t ys → r ≡ text_of (xs ++ ys)
 begun xs ys first then = then ∙ ap (λ (s : Text). appended s ys) first ∙ appended_text xs ys
 
--- one byte more of a slice
-pub appended_more : (text : Text) {t r : Text} (more : List ℕ) (i : ℕ) → i < length more → t ≡ appended text (take i more)
-    → r ≡ appended t (get_or more i 0 ∷ [])
-    → r ≡ appended text (take (i + 1) more)
-appended_more text more i l first then = rw (add-one, take-suc more i 0 l) (behind text _ _ first then)
+-- bytes put behind a text one after the other, and the numbers of ports
+pub bytes_folded : (text : Text) (more : List ℕ) → fold (λ (t : Text) (b : ℕ). appended t (b ∷ [])) text more ≡ appended text more
+unfolding appended
+bytes_folded text [] = refl
+bytes_folded text (b ∷ more) = bytes_folded (with_byte text b) more
 
--- one place more of a path
-each_more : (ports : List PortNo) (p : PortNo) → each_spaced (ports ++ (p ∷ [])) ≡ each_spaced ports ++ spaced p.0
-unfolding each_spaced
-each_more [] p = append-nil (spaced p.0)
-each_more (q ∷ ports) p = rw (each_more ports p, append_assoc)
-
-module _ (text : Text) (places : List PortNo) (all : length places ≡ 32) (i : ℕ) where
-  pub crossed_more : {t r : Text} (d : PortNo) → i < 32 → t ≡ appended text (each_spaced (take i places))
-      → r ≡ appended t (spaced (get_or places i d).0)
-      → r ≡ appended text (each_spaced (take (i + 1) places))
-  crossed_more d l first then = rw (add-one, take-suc places i d (omega arith), each_more) (behind text _ _ first then)
-
-  pub crossed_all : {r : Text} (count : ℕ) → 32 ≤ i → i ≤ count → r ≡ appended text (each_spaced (take i places))
-      → r ≡ appended text (each_spaced (take count places))
-  crossed_all count l more so_far = rw (take_all count places (omega arith), ← take_all i places (omega arith)) so_far
+pub ports_folded : (text : Text) (ports : List PortNo)
+    → fold (λ (t : Text) (p : PortNo). appended t (spaced p.0)) text ports ≡ appended text (each_spaced ports)
+unfolding appended each_spaced
+ports_folded text [] = refl
+ports_folded text (p ∷ ports) = ports_folded (appended text (spaced p.0)) ports ∙ appended_append text (spaced p.0) (each_spaced ports)
 
 -- the fewest digits: those of a tenth, and one more
 lead : (n j : ℕ) → IsDigitCount 10 1 n (suc j) → 0 < j → 10 ^ j ≤ n

@@ -5,7 +5,7 @@ mod holds;
 mod report;
 mod walks;
 
-ghost use Rattle.std.specs.Prelude.{◌≡◌, [], ◌∷◌, ◌^◌, ◌≤◌, ◌<◌};
+ghost use Rattle.std.specs.Prelude.{◌≡◌, cond, [], ◌∷◌, ◌^◌, ◌≤◌, ◌<◌};
 ghost use Rattle.io.specs.Digits.{last_digits};
 ghost use Rattle.texts.specs.Texts.{text_of, appended, decimal};
 ghost use Rattle.texts.specs.Lines.{spaced};
@@ -49,17 +49,18 @@ impl Text {
     }
 
     // The text with more behind it.
-    #[tactic(auto, using(crate::proofs::Laws::appended_more), unfolding(crate::specs::Texts::appended))]
     pub fn with(self, more: &[u8]) -> Text
         ensures { result ≡ appended self more.now }
     {
-        let mut text = self;
-        let mut i = 0;
-        while i < more.len() {
-            text = text.with_byte(more[i]);
-            i += 1;
-        }
-        text
+        more.iter().fold(self, |text, &b| text.with_byte(b))
+    }
+
+    // The text with a word behind it, where it applies.
+    #[tactic(auto, unfolding(crate::specs::Texts::appended))]
+    fn with_if(self, applies: bool, word: &[u8]) -> Text
+        ensures { result ≡ appended self (cond applies word.now []) }
+    {
+        if applies { self.with(word) } else { self }
     }
 
     // The text with a decimal number behind it.

@@ -40,10 +40,8 @@ fn with_ports(text: Text, ports: Named) -> Text
 pub fn refused_text(f: Finding) -> Text
     ensures { result ≡ text_of (refused_line f) }
 {
-    let target = f.target;
-    let ports = f.ports;
     let text = Text::new().with(b"refused").with_number(f.number as u64);
-    with_ports(with_target(text, target), ports)
+    with_ports(with_target(text, f.target), f.ports)
 }
 
 // `ports N` and `clear` with the byte `end` between them, or the refusal.

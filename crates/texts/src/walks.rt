@@ -37,21 +37,13 @@ fn end_text(config: bool, end: End) -> Text
 }
 
 // The text with the first of the places, each after a space.
-#[tactic(auto, using(crate::proofs::Laws::crossed_all, crate::proofs::Laws::crossed_more), unfolding(crate::specs::Texts::appended, crate::specs::Lines::each_spaced))]
 fn with_places(text: Text, places: [PortNo; 32], count: usize) -> Text
     ensures { result ≡ appended text (each_spaced (take count places)) }
 {
-    let mut grown = text;
-    let mut i = 0;
-    while i < 32 {
-        if count <= i {
-            return grown;
-        }
-        let p = places[i];
-        grown = grown.with_port(p);
-        i += 1;
-    }
-    grown
+    places
+        .iter()
+        .take(count)
+        .fold(text, |grown, &p| grown.with_port(p))
 }
 
 // Where a packet goes: its end, and on a second line the ports that it has crossed.
@@ -59,7 +51,6 @@ fn with_places(text: Text, places: [PortNo; 32], count: usize) -> Text
 pub fn walk_text(config: bool, end: End, path: Path) -> Text
     ensures { result ≡ text_of (walk_lines config end path) }
 {
-    let places = path.places;
     let text = end_text(config, end).with(b"\npath");
-    with_places(text, places, path.count)
+    with_places(text, path.places, path.count)
 }

@@ -5,10 +5,6 @@
 use std::io;
 use std::io::Read;
 
-fn print_lines<'a>(rt: &impl Print, picture: &'a [u8], patch: &'a [u8]) -> io::Result<()> {
-    reports::trial_lines(picture, patch).print(rt)
-}
-
 // What the judge says of the picture and the file. No patch of more than 65,480 bytes is accepted; of a file of more than twice
 // as many the first 131,073 are judged.
 fn try_patch(rt: HostRuntime, file: &mut impl Read) -> io::Result<()> {
@@ -16,11 +12,11 @@ fn try_patch(rt: HostRuntime, file: &mut impl Read) -> io::Result<()> {
     let n = inputs::read_full(file, &mut patch)?;
     let mut picture = [0u8; 65537];
     let m = inputs::read_full(&mut rt.stdin(), &mut picture)?;
-    print_lines(&rt, &picture[..m], &patch[..n])
+    reports::trial_lines(&picture[..m], &patch[..n]).print(&rt)
 }
 
 fn main(rt: HostRuntime) -> io::Result<()> {
-    if !inputs::has_word(&rt, 1) | inputs::has_word(&rt, 2) {
+    if !inputs::has_word(&rt, 1) || inputs::has_word(&rt, 2) {
         return eprintln!(rt; "usage: trial PATCH <PICTURE");
     }
     match inputs::open(&rt, 1) {

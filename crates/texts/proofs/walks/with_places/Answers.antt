@@ -1,19 +1,14 @@
-use Rattle.std.proofs.Common.{◌≡◌, arith}
-use Rattle.texts.proofs.Laws.{crossed_more, crossed_all}
+use Rattle.std.proofs.Common.{◌∙◌, rules}
+use Rattle.std.proofs.lemmas.Iterator.{YieldsList-from_slice, YieldsList-from_take}
+use Rattle.std.proofs.lemmas.Iterator.Consumers.{fold_from_yields_List}
+use Rattle.ids.specs.declared.PortNo.{PortNo}
+use Rattle.texts.specs.declared.Text.{Text}
+use Rattle.texts.specs.Texts.{appended}
+use Rattle.texts.specs.Lines.{spaced}
+use Rattle.texts.proofs.Laws.{ports_folded}
 use Rattle.texts.proofs.walks.with_places.Goals as goal
-
-pub returns-then-count-i : goal.returns-then-count-i
-returns-then-count-i c =
-    let e : c.args.count ≡ c.loop-i.i = omega arith in
-    rw e c.loop-i.invariant.reached
-
-pub loop-i-preserved : goal.loop-i-preserved
-loop-i-preserved c =
-    record {
-      within = omega arith;
-      reached = crossed_more _ _ (omega arith) c.loop-i.i _ (omega arith) c.loop-i.invariant.reached c.with_port-grown.ensures;
-    }
 
 pub returns : goal.returns
 returns c =
-    crossed_all _ _ (omega arith) c.loop-i.i c.args.count (omega arith) c.loop-i.invariant.within c.loop-i.invariant.reached
+    fold_from_yields_List _ (λ (t : Text) (p : PortNo). appended t (spaced p.0)) _ _ c.fold.ensures.ran (YieldsList-from_take _ (YieldsList-from_slice c.args.places cc) cc) (λ t p r f k. search rules)
+    ∙ ports_folded _ _
