@@ -10,6 +10,7 @@ use spans::ranges::Range;
 use vectors::{next_entry, word};
 
 // The words, unit u as digit u mod 64 of word u/64.
+#[derive(Drop)]
 pub struct Strip {
     pub words: [u64; WORDS],
 }
