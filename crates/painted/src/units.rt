@@ -152,7 +152,7 @@ impl Part {
     ghost use Rattle.painted.specs.Painted.{units_of, mechanism_of, base_unit};
 
     // What a port claims in it.
-    pub fn units_of(&self, p: Port) -> Claimed
+    pub(crate) fn units_of(&self, p: Port) -> Claimed
         ensures { result ≡ units_of p self.now }
     {
         match self {
@@ -163,7 +163,7 @@ impl Part {
     }
 
     // The mechanism whose vector claims in it.
-    pub fn mechanism(&self) -> Mechanism
+    pub(crate) fn mechanism(&self) -> Mechanism
         ensures { result ≡ mechanism_of self.now }
     {
         match self {
@@ -174,7 +174,7 @@ impl Part {
     }
 
     // The unit that it begins with.
-    pub fn base_unit(&self) -> u64
+    pub(crate) fn base_unit(&self) -> u64
         ensures value { result ≡ base_unit self.now }
         ensures upper_bound { result < 2 ^ 62 }
     {

@@ -1,11 +1,11 @@
 -- Laws of grids: from the lowest entry that is set, or clear, to the lowest target that is hit, or missed.
 -- Assumes nothing.
-use Prim.Native.Nat.{ℕ, suc, ◌+◌, ◌-◌, ◌*◌, ◌/◌, ◌%◌, ◌^◌, ◌≤◌, ◌<◌, max}
+use Prim.Native.Nat.{ℕ, suc, ◌+◌, ◌-◌, ◌*◌, ◌/◌, ◌^◌, ◌≤◌, ◌<◌, max}
 use mathlib.Core.Path.{◌≡◌, refl, sym, ap, ◌∙◌}
 use mathlib.Core.Bool.{Bool, true, false, not, cond, ◌&&◌, ◌||◌, beq}
 use mathlib.Core.List.{List}
 use native.Mathlib.Decide.{dec_le, dec_lt}
-use native.Mathlib.Nat.{le_refl, le-div_iff_mul-le, div-lt_iff_lt-mul, mod-eq_of_lt}
+use native.Mathlib.Nat.{le_refl, le-div_iff_mul-le, div-lt_iff_lt-mul}
 use native.Mathlib.Omega.{arith}
 use lib.Dec.{leb, ltb}
 use lib.Pow.{pow_pos, shr_mono}
@@ -36,10 +36,6 @@ module _ (s : Settings) (i : ℕ) (fits : s.start < 2 ^ 64) where
 
   begins_past : (2 ^ 64 - 1 - s.start) / 2 ^ s.scale < i → 2 ^ 64 ≤ s.start + i * 2 ^ s.scale
   begins_past l = omega (arith, (div-lt_iff_lt-mul (pow_pos s.scale)).0 l)
-
-  -- the code's shift loses nothing
-  pub shift_exact : i ≤ (2 ^ 64 - 1 - s.start) / 2 ^ s.scale → i * 2 ^ s.scale % 2 ^ 64 ≡ i * 2 ^ s.scale
-  shift_exact l = mod-eq_of_lt (omega (arith, (le-div_iff_mul-le (pow_pos s.scale)).0 l))
 
 -- the lowest target of the lowest entry
 module _ (s : Settings) (fits : s.start < 2 ^ 64) (q e : ℕ → Bool) (same : (t : ℕ) → s.start ≤ t → q t ≡ e (entry_at s t)) where

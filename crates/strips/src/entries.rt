@@ -28,7 +28,7 @@ impl Model for SmallSettings {
 
 impl SmallSettings {
     // How many entries there are.
-    pub fn size(self) -> u64
+    pub(crate) fn size(self) -> u64
         ensures value { result ≡ self.size }
         ensures upper_bound { result < 2 ^ 16 }
     {
@@ -37,7 +37,7 @@ impl SmallSettings {
     }
 
     // The unit where entry 0 begins.
-    pub fn start(self) -> u64
+    pub(crate) fn start(self) -> u64
         ensures value { result ≡ self.start }
         ensures upper_bound { result < 2 ^ 48 }
     {
@@ -46,7 +46,7 @@ impl SmallSettings {
     }
 
     // Whether each entry is one unit, and they fill whole words.
-    pub fn fills_words(self) -> bool
+    pub(crate) fn fills_words(self) -> bool
         ensures { result ≡ (eqb self.scale 0 && eqb (self.size % 64) 0) }
     {
         let g = self.settings;

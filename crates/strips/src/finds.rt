@@ -17,7 +17,7 @@ pub fn is_marked(strip: &[u64], u: u64) -> bool
 }
 
 // The first unit of the first `words` words that is marked in a, and in b or not, as is wanted.
-#[tactic(auto, using(least::proofs::Laws::NoneIn, least::proofs::Laws::at_is, crate::proofs::OfMarks::both_digits, vectors::proofs::Digits::digits_least, vectors::proofs::Digits::digits_none, least::proofs::Laws::none_empty, least::proofs::Laws::none_is, least::proofs::Laws::none_join, least::proofs::Laws::none_part))]
+#[tactic(auto, using(least::proofs::Laws::none_empty, least::proofs::Laws::none_is))]
 pub fn first_of_both(a: &[u64], b: &[u64], want: bool, words: usize) -> Option<u64>
     requires { (words ≤ length a.now) × (words ≤ length b.now) × (words ≤ 128) }
     ensures { result ≡ first_in (marked_both a.now b.now want) 0 (64 * words) }

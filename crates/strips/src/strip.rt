@@ -10,6 +10,7 @@ use spans::ranges::Range;
 use vectors::{next_entry, word};
 
 // The words, unit u as digit u mod 64 of word u/64.
+#[derive(Drop)]
 pub struct Strip {
     pub words: [u64; WORDS],
 }
@@ -61,7 +62,7 @@ impl Strip {
     }
 
     // Marks the units a to b of the strip.
-    #[tactic(auto, using(crate::proofs::Laws::marks_also, crate::proofs::Laws::marks_as, crate::proofs::Laws::marks_none, crate::proofs::OfMarks::units_begin, crate::proofs::OfMarks::units_end, crate::proofs::OfMarks::units_more, crate::proofs::OfMarks::units_to))]
+    #[tactic(auto, using(crate::proofs::Laws::marks_also, crate::proofs::Laws::marks_as, crate::proofs::Laws::marks_none, crate::proofs::OfMarks::units_begin, crate::proofs::OfMarks::units_end, crate::proofs::OfMarks::units_more))]
     fn mark_units(&mut self, a: u64, b: u64)
         requires { (a ≤ b) × (b < 8192) }
         ensures { Marks self.old.words self.new.words (in_range (record { lo = a; hi = b })) }
@@ -87,7 +88,7 @@ impl Strip {
     }
 
     // Marks each entry that is set, one after the other.
-    #[tactic(auto, using(crate::proofs::OfGrids::grid_begin, crate::proofs::OfGrids::grid_end, crate::proofs::OfGrids::grid_more, least::proofs::Laws::is_at, least::proofs::Laws::is_none, crate::proofs::Laws::marks_also, crate::proofs::Laws::marks_as, crate::proofs::Laws::marks_none, crate::proofs::OfGrids::sized))]
+    #[tactic(auto, using(crate::proofs::OfGrids::grid_begin, crate::proofs::OfGrids::grid_end, least::proofs::Laws::is_none, crate::proofs::Laws::marks_as, crate::proofs::Laws::marks_none))]
     fn mark_entries(&mut self, base: u64, v: &[u8], g: SmallSettings)
         requires { base < 2 ^ 62 }
         ensures { Marks self.old.words self.new.words (grid_from base v.now g) }
@@ -101,7 +102,7 @@ impl Strip {
     }
 
     // Marks entries that are a unit each, 64 at a time.
-    #[tactic(auto, using(crate::proofs::OfGrids::all_words, crate::proofs::OfGrids::grid_word, crate::proofs::Laws::marks_also, crate::proofs::Laws::marks_as, crate::proofs::Laws::marks_none, crate::proofs::OfGrids::no_words, crate::proofs::OfGrids::sized))]
+    #[tactic(auto, using(crate::proofs::OfGrids::all_words, crate::proofs::OfGrids::grid_word, crate::proofs::Laws::marks_also, crate::proofs::Laws::marks_as, crate::proofs::Laws::marks_none, crate::proofs::OfGrids::no_words))]
     fn mark_words(&mut self, base: u64, v: &[u8], g: SmallSettings)
         requires { (g.scale ≡ 0) × (g.size % 64 ≡ 0) }
         ensures { Marks self.old.words self.new.words (grid_from base v.now g) }
