@@ -48,7 +48,7 @@ pub fn print_part<'a>(
         None => judge::trial_part(picture, patch, u32::MAX, Mechanism::Rid),
     };
     match answer {
-        Err(r) => print_number(rt, r.number),
+        Err(r) => print_number(rt, r.number()),
         Ok(place) => print_place(rt, place),
     }
 }

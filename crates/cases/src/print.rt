@@ -39,7 +39,7 @@ pub struct Answer(pub Result<Conversion, Refusal>);
 impl fmt::Display for Answer {
     fn fmt<W: fmt::Write>(&self, f: &mut fmt::Formatter<W>) -> fmt::Result {
         match self.0 {
-            Err(r) => write!(f, "refused {}", r.number),
+            Err(r) => write!(f, "refused {}", r.number()),
             Ok(made) => write!(f, "{}", decided(made)),
         }
     }

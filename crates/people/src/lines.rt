@@ -1,12 +1,10 @@
 // What the tree says of one port.
-ghost use Rattle.std.specs.Prelude.{◌≡◌};
-ghost use Rattle.trees.specs.Trees.{count_of};
-
-use crate::ports::Kind;
+use crate::ports::KindOf;
 use crate::settings::{MECHANISMS, say_vector_in_use, say_windows};
 use ids::PortNo;
 use registers::{Bridge, port_at, with_ari, with_redirect};
 use std::{fmt, io};
+use trees::Picture;
 
 // The buses of the bus pair: `[01-04]`, `[01]`, and `[]` for a pair that claims nothing.
 #[derive(Clone, Copy)]
@@ -26,10 +24,9 @@ impl fmt::Display for Buses {
     }
 }
 
-// `02:00.0-[03]  port 2, switch downstream port, device port`, then windows and vectors in use; n is the count of ports.
-pub fn say_line(rt: &impl Print, s: &[u8], n: u8, p: PortNo) -> io::Result<()>
-    requires { n ≡ count_of s.now }
-{
+// `02:00.0-[03]  port 2, switch downstream port, device port`, then windows and vectors in use.
+pub fn say_line(rt: &impl Print, picture: &Picture, p: PortNo) -> io::Result<()> {
+    let s = picture.bytes;
     let port = port_at(s, p);
     let b = port.bridge;
     let f = port.fpb;
@@ -37,9 +34,9 @@ pub fn say_line(rt: &impl Print, s: &[u8], n: u8, p: PortNo) -> io::Result<()>
         "{}-{}  port {p}, {}",
         port.own_id,
         Buses(b),
-        Kind(port.kind)
+        KindOf(port.kind)
     )?;
-    let device_port = trees::is_device_port(s, n, p);
+    let device_port = picture.is_device_port(p);
     if device_port {
         print!(rt; ", device port")?;
     }

@@ -2,6 +2,7 @@
 use ids::PortNo;
 use registers::parent_at;
 use std::iter::successors;
+use trees::Picture;
 
 // The port above; none above a root port.
 pub fn parent_of(s: &[u8], p: PortNo) -> Option<PortNo> {
@@ -13,20 +14,20 @@ pub fn parent_of(s: &[u8], p: PortNo) -> Option<PortNo> {
 }
 
 // The lowest child of a place from this number on.
-pub fn child_from(s: &[u8], n: u8, from: u8, place: PortNo) -> Option<PortNo> {
-    (from..n)
+pub fn child_from(picture: &Picture, from: u8, place: PortNo) -> Option<PortNo> {
+    (from..picture.count)
         .map(|p| PortNo(p))
-        .find(|&p| parent_at(s, p) == place)
+        .find(|&p| parent_at(picture.bytes, p) == place)
 }
 
 // The next child of the same parent.
-fn next_sibling(s: &[u8], n: u8, p: PortNo) -> Option<PortNo> {
-    child_from(s, n, p.0.checked_add(1)?, parent_at(s, p))
+fn next_sibling(picture: &Picture, p: PortNo) -> Option<PortNo> {
+    child_from(picture, p.0.checked_add(1)?, parent_at(picture.bytes, p))
 }
 
 // Whether a later port has the same parent.
-pub fn has_later_sibling(s: &[u8], n: u8, p: PortNo) -> bool {
-    next_sibling(s, n, p).is_some()
+pub fn has_later_sibling(picture: &Picture, p: PortNo) -> bool {
+    next_sibling(picture, p).is_some()
 }
 
 // The port so many steps above; none past a root port.
@@ -35,13 +36,13 @@ pub fn above(s: &[u8], p: PortNo, steps: usize) -> Option<PortNo> {
 }
 
 // The next sibling of a port without children, or of the lowest port above it that has one.
-fn next_upward(s: &[u8], n: u8, p: PortNo) -> Option<PortNo> {
-    successors(Some(p), |&q| parent_of(s, q))
+fn next_upward(picture: &Picture, p: PortNo) -> Option<PortNo> {
+    successors(Some(p), |&q| parent_of(picture.bytes, q))
         .take(16)
-        .find_map(|q| next_sibling(s, n, q))
+        .find_map(|q| next_sibling(picture, q))
 }
 
 // The port that follows in the order of the tree.
-pub fn following(s: &[u8], n: u8, p: PortNo) -> Option<PortNo> {
-    child_from(s, n, 0, p).or_else(|| next_upward(s, n, p))
+pub fn following(picture: &Picture, p: PortNo) -> Option<PortNo> {
+    child_from(picture, 0, p).or_else(|| next_upward(picture, p))
 }

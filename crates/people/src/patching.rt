@@ -9,7 +9,7 @@ use registers::port_at;
 use std::io;
 
 // Number 30; of a longer patch the first 131,073 bytes are judged.
-fn say_misfit(rt: &impl Print, patch: &[u8]) -> io::Result<()> {
+pub fn say_misfit(rt: &impl Print, patch: &[u8]) -> io::Result<()> {
     let length = Counted(patch.len(), "byte");
     if patch.len() < 8 {
         return print!(rt; ": it has {length}");
@@ -37,8 +37,9 @@ fn say_port_at(rt: &impl Print, patch: &[u8], n: u8, i: u32) -> io::Result<()> {
     Ok(())
 }
 
-// Number 31, of a picture of n ports, at the first row that is wrong.
-fn say_misplaced_port(rt: &impl Print, patch: &[u8], n: u8) -> io::Result<()> {
+// Number 31, at the first row that is wrong.
+pub fn say_misplaced_port(rt: &impl Print, s: &[u8], patch: &[u8]) -> io::Result<()> {
+    let n = (u16_at(s, 2) % 256) as u8;
     match (0..ports_in(patch)).find(|&i| port_misplaced(patch, n, i)) {
         None => Ok(()),
         Some(i) => say_port_at(rt, patch, n, i),
@@ -46,7 +47,7 @@ fn say_misplaced_port(rt: &impl Print, patch: &[u8], n: u8) -> io::Result<()> {
 }
 
 // Number 32, at the first row whose vectors start elsewhere than at the running offset, or at their end.
-fn say_misplaced_vectors(rt: &impl Print, s: &[u8], patch: &[u8]) -> io::Result<()> {
+pub fn say_misplaced_vectors(rt: &impl Print, s: &[u8], patch: &[u8]) -> io::Result<()> {
     let count = ports_in(patch);
     let mut running: u64 = row_at(count);
     for i in 0..count {
@@ -64,13 +65,4 @@ fn say_misplaced_vectors(rt: &impl Print, s: &[u8], patch: &[u8]) -> io::Result<
         ": they end at byte {running}, and the patch has {}",
         Counted(patch.len(), "byte")
     )
-}
-
-// The particulars of number 30, 31 or 32.
-pub fn say_of_patch(rt: &impl Print, s: &[u8], patch: &[u8], number: u8) -> io::Result<()> {
-    match number {
-        30 => say_misfit(rt, patch),
-        31 => say_misplaced_port(rt, patch, (u16_at(s, 2) % 256) as u8),
-        _ => say_misplaced_vectors(rt, s, patch),
-    }
 }

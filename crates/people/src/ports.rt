@@ -1,22 +1,20 @@
 // Ports in words: kinds, and a port with those above it.
 use crate::neighbours::parent_of;
-use chassis::{DOWNSTREAM, ROOT_PORT, UPSTREAM};
+use chassis::Kind;
 use ids::PortNo;
-use registers::{kind_at, own_id_at, parent_at};
+use registers::{kind_at, own_id_at, parent_at, port_at};
 use std::iter::successors;
 use std::{fmt, io};
 
-// `root port`, and `unknown kind 7` for a number that is no kind.
+// The kind that a record's byte stands for: `root port`, and `unknown kind 7` for one that stands for none.
 #[derive(Clone, Copy)]
-pub struct Kind(pub u8);
+pub struct KindOf(pub u8);
 
-impl fmt::Display for Kind {
+impl fmt::Display for KindOf {
     fn fmt<W: fmt::Write>(&self, f: &mut fmt::Formatter<W>) -> fmt::Result {
-        match self.0 {
-            ROOT_PORT => write!(f, "root port"),
-            UPSTREAM => write!(f, "switch upstream port"),
-            DOWNSTREAM => write!(f, "switch downstream port"),
-            other => write!(f, "unknown kind {other}"),
+        match Kind::try_from(self.0) {
+            Ok(kind) => write!(f, "{kind}"),
+            Err(unknown) => write!(f, "{unknown}"),
         }
     }
 }
@@ -70,11 +68,11 @@ fn say_parent(rt: &impl Print, s: &[u8], p: PortNo) -> io::Result<()> {
 fn say_found_above(rt: &impl Print, s: &[u8], p: PortNo) -> io::Result<()> {
     let kind = kind_at(s, p);
     let parent = parent_at(s, p);
-    if p <= parent || !matches!(kind, UPSTREAM | DOWNSTREAM) {
+    if p <= parent || !matches!(kind, Ok(Kind::Upstream | Kind::Downstream)) {
         return Ok(());
     }
-    print!(rt; ", whose parent is a {}", Kind(kind_at(s, parent)))?;
-    if kind == UPSTREAM && trees::has_child_below(s, p.0, parent) {
+    print!(rt; ", whose parent is a {}", KindOf(port_at(s, parent).kind))?;
+    if kind == Ok(Kind::Upstream) && trees::has_child_below(s, p.0, parent) {
         print!(rt; " with a child already")?;
     }
     Ok(())
@@ -83,7 +81,7 @@ fn say_found_above(rt: &impl Print, s: &[u8], p: PortNo) -> io::Result<()> {
 // A port that breaks a rule of the tree: its kind and parent may be any numbers.
 pub fn say_tree_breaker(rt: &impl Print, s: &[u8], p: PortNo) -> io::Result<()> {
     let id = own_id_at(s, p);
-    print!(rt; ": port {p} ({id}, {}", Kind(kind_at(s, p)))?;
+    print!(rt; ": port {p} ({id}, {}", KindOf(port_at(s, p).kind))?;
     say_parent(rt, s, p)?;
     print!(rt; ")")?;
     say_found_above(rt, s, p)

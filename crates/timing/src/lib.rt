@@ -13,7 +13,7 @@ fn reading_code(got: Result<Header, Refusal>) -> u32
 {
     match got {
         Ok(_) => 0,
-        Err(r) => r.number as u32,
+        Err(r) => r.number() as u32,
     }
 }
 
