@@ -1,11 +1,10 @@
 -- The byte that is found by looking through the changes so far is the one that the version before a change holds.
 -- Assumes nothing.
-use Prim.Native.Nat.{ℕ, zero, suc, ◌+◌, ◌-◌, ◌<◌, ◌≤◌, ◌^◌}
-use mathlib.Core.Bool.{Bool, true, false, cond, not, ◌&&◌, ◌||◌}
+use Prim.Native.Nat.{ℕ, zero, suc, ◌+◌, ◌-◌, ◌<◌, ◌≤◌}
+use mathlib.Core.Bool.{Bool, true, false, cond, not, ◌&&◌}
 use mathlib.Core.List.{List}
 use mathlib.Core.Path.{◌≡◌, refl, sym, ap, ◌∙◌, subst}
 use native.Mathlib.Nat.{le_refl, zero-add, suc-add}
-use native.Mathlib.Numerals.{add-one}
 use native.Mathlib.Omega.{arith}
 use borrow.Author.Tests.{eqb-true, ltb-true}
 use lib.Dec.{eqb, ltb}
@@ -13,14 +12,12 @@ use lib.ListN.{length, get_or, length-set, get_or-eq_default}
 use lib.Seq.{get_or-set_same, get_or-set_other}
 use Rattle.least.proofs.Laws.{impossible}
 use Rattle.chassis.proofs.Bools.{and_true_parts}
-use Rattle.chassis.specs.Tree.{any_below}
 use Rattle.trees.specs.Trees.{count_of}
-use Rattle.picture.specs.Reading.{reading, number_of}
 use Rattle.changes.specs.declared.Change.{Change}
 use Rattle.changes.specs.Change.{part_bytes, byte_named}
 use Rattle.changes.specs.Versions.{byte_set, made, no_change, change_at, made_up_to, version}
-use Rattle.changes.specs.Adding.{is_none, byte_at, is_another, names_none, old_wrong, run_number, room_full, else_number, adding_number}
-use Rattle.changes.specs.Looking.{same_byte, held_after, held_up_to, lower}
+use Rattle.changes.specs.Adding.{byte_at, is_another, old_wrong}
+use Rattle.changes.specs.Looking.{same_byte, held_after, held_up_to}
 use Rattle.changes.proofs.Named.{named, within, same_place}
 use Rattle.changes.proofs.Reading.{Read-as}
 use Rattle.std.specs.Prelude.{Option, Some, None}
@@ -123,58 +120,3 @@ wrong_is first room run kept i sound = go (byte_named first (change_at run i)) r
         (ap (λ (b : ℕ). held_up_to run c b i) (held_is first sound c x e room first refl held ∙ ap (λ (bytes : List ℕ). get_or bytes x 0) (version_held first room kept))
         ∙ held_is first sound c x e run (version first room kept) (up_to_length first room first kept) i)
     go None e = refl
-
--- 37 and 38 over one change more
-pub number_more : (first bytes : List ℕ) (run : List Change) (i : ℕ) → lower (run_number first bytes run i) (names_none first run i) (old_wrong first bytes run i) ≡ run_number first bytes run (i + 1)
-unfolding run_number any_below
-number_more first bytes run i =
-    rw (add-one i) (go (any_below (names_none first run) i) (names_none first run i) (any_below (old_wrong first bytes run) i) (old_wrong first bytes run i))
-  where
-    go : (n m w v : Bool) → lower (cond n 37 (cond w 38 0)) m v ≡ cond (n || m) 37 (cond (w || v) 38 0)
-    go true true w v = refl
-    go true false true v = refl
-    go true false false v = refl
-    go false true w v = refl
-    go false false true true = refl
-    go false false true false = refl
-    go false false false true = refl
-    go false false false false = refl
-
-pub number_small : (first bytes : List ℕ) (run : List Change) (i : ℕ) → run_number first bytes run i < 2 ^ 32
-unfolding run_number
-number_small first bytes run i = go (any_below (names_none first run) i) (any_below (old_wrong first bytes run) i)
-  where
-    go : (n w : Bool) → cond n 37 (cond w 38 0) < 2 ^ 32
-    go true w = omega arith
-    go false true = omega arith
-    go false false = omega arith
-
-pub number_none : (first bytes : List ℕ) (run : List Change) → 0 ≡ run_number first bytes run 0
-unfolding run_number any_below
-number_none first bytes run = refl
-
--- the number that adding ends with, of a run that was gone through as far as the first picture reads
-pub adding_by : (first : List ℕ) (room run : List Change) (kept n : ℕ) → n ≡ cond (eqb (number_of (reading first)) 0) (length run) 0
-    → else_number (number_of (reading first)) (else_number (run_number first (version first room kept) run n) (cond (room_full (length room) kept (length run)) 39 0)) ≡ adding_number first room run kept
-unfolding adding_number
-adding_by first room run kept n is = go (eqb (number_of (reading first)) 0) is
-  where
-    go : (b : Bool) → n ≡ cond b (length run) 0
-        → cond b (else_number (run_number first (version first room kept) run n) (cond (room_full (length room) kept (length run)) 39 0)) (number_of (reading first))
-        ≡ cond b (else_number (run_number first (version first room kept) run (length run)) (cond (room_full (length room) kept (length run)) 39 0)) (number_of (reading first))
-    go true e = ap (λ (m : ℕ). else_number (run_number first (version first room kept) run m) (cond (room_full (length room) kept (length run)) 39 0)) e
-    go false e = refl
-
--- the number after one change more of the run, by what is looked for on the way
-pub next_number : (first : List ℕ) (room run : List Change) (kept i b₀ b₁ b₂ r : ℕ) → Read-as first
-    → b₀ ≡ byte_at (byte_named first (change_at run i)) first
-    → b₁ ≡ held_up_to room (change_at run i) b₀ (cond (ltb (length room) kept) (length room) kept)
-    → b₂ ≡ held_up_to run (change_at run i) b₁ i
-    → r ≡ lower (run_number first (version first room kept) run i) (is_none (byte_named first (change_at run i))) (is_another (byte_named first (change_at run i)) b₂ (change_at run i).old_byte)
-    → r ≡ run_number first (version first room kept) run (i + 1)
-unfolding names_none
-next_number first room run kept i b₀ b₁ b₂ r sound e₀ e₁ e₂ e =
-    e
-    ∙ ap (lower (run_number first (version first room kept) run i) (is_none (byte_named first (change_at run i))))
-    (ap (λ (b : ℕ). is_another (byte_named first (change_at run i)) b (change_at run i).old_byte) (rw (e₂, e₁, e₀)) ∙ wrong_is first room run kept i sound)
-    ∙ number_more first (version first room kept) run i

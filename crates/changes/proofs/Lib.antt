@@ -5,5 +5,4 @@ pub mod Held
 pub mod BackRead
 pub mod Stood
 pub mod Added
-pub mod Turns
 pub mod Histories

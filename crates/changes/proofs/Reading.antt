@@ -1,16 +1,14 @@
 -- A picture with number 0 reads, and then has no more ports than can be.
 -- Assumes nothing.
-use Prim.Native.Nat.{ℕ, ◌<◌, ◌≤◌, ◌^◌}
-use mathlib.Core.Bool.{Bool, true, false, cond}
+use Prim.Native.Nat.{ℕ, ◌<◌}
+use mathlib.Core.Bool.{Bool, true, false}
 use mathlib.Core.List.{List}
-use mathlib.Core.Path.{◌≡◌, refl, subst}
+use mathlib.Core.Path.{◌≡◌, refl}
 use native.Mathlib.Omega.{arith}
-use borrow.Author.Tests.{eqb-true}
-use lib.Dec.{eqb}
 use lib.ListN.{length}
 use Rattle.least.specs.Least.{first_in}
 use Rattle.trees.specs.Trees.{count_of}
-use Rattle.picture.proofs.WhatReads.{Reads, reads, count_read, count_few}
+use Rattle.picture.proofs.WhatReads.{Reads, reads}
 use Rattle.picture.specs.declared.Header.{Header}
 use Rattle.picture.specs.declared.refusals.Rule.TheVariants.{Tree, Chain, Settings, Start}
 use Rattle.picture.specs.Header.{header_of, length_wrong, edition_wrong, count_wrong, total_wrong, offset_wrong}
@@ -53,42 +51,5 @@ sound first =
     (past_at (first_in (breaks Start first) 0 (count_of first)) (Breaks Start) _ (λ p. omega arith)
     (past_at (misplaced_in first) Misplaced _ (λ p. omega arith) (λ e. (header_of first, refl)))))))))))
 
--- a number of the table has few bits
-abbrev Few : Result Header Refusal → Type 0
-Few got = number_of got < 2 ^ 32
-
-few_if : (wrong : Bool) (refusal : Refusal) (rest : Result Header Refusal) → refusal_number refusal < 2 ^ 32 → Few rest → Few (refused_if wrong refusal rest)
-few_if true refusal rest few others = few
-few_if false refusal rest few others = others
-
-few_at : (found : Option ℕ) (refusal : PortNo → Refusal) (rest : Result Header Refusal) → ((p : PortNo) → refusal_number (refusal p) < 2 ^ 32) → Few rest → Few (refused_at found refusal rest)
-few_at (Some p) refusal rest few others = few (port_no p)
-few_at None refusal rest few others = others
-
-pub reading_small : (first : List ℕ) → Few (reading first)
-unfolding reading ports_reading
-reading_small first =
-    few_if (length_wrong first) Length _ (omega arith)
-    (few_if (edition_wrong (header_of first)) Edition _ (omega arith)
-    (few_if (count_wrong (header_of first)) Count _ (omega arith)
-    (few_if (total_wrong (length first) (header_of first)) Total _ (omega arith)
-    (few_if (offset_wrong (length first) (header_of first)) Offset _ (omega arith)
-    (few_at (first_in (breaks Tree first) 0 (count_of first)) (Breaks Tree) _ (λ p. omega arith)
-    (few_at (first_in (breaks Chain first) 0 (count_of first)) (Breaks Chain) _ (λ p. omega arith)
-    (few_at (first_in (breaks Settings first) 0 (count_of first)) (Breaks Settings) _ (λ p. omega arith)
-    (few_at (first_in (breaks Start first) 0 (count_of first)) (Breaks Start) _ (λ p. omega arith)
-    (few_at (misplaced_in first) Misplaced _ (λ p. omega arith) (omega arith))))))))))
-
 pub reads_zero : (first : List ℕ) → number_of (reading first) ≡ 0 → Read-as first
 reads_zero first e = let got = sound first e in record { header = got.0; all = reads first got.0 got.1 }
-
--- what a loop that goes as far as the reading lets it knows in each turn
-pub reads_far : (first : List ℕ) (m i : ℕ) → i < cond (eqb (number_of (reading first)) 0) m 0 → number_of (reading first) ≡ 0
-reads_far first m i l = go (eqb (number_of (reading first)) 0) refl l
-  where
-    go : (b : Bool) → eqb (number_of (reading first)) 0 ≡ b → i < cond b m 0 → number_of (reading first) ≡ 0
-    go true e l = eqb-true _ _ e
-    go false e l = absurd (omega (arith, l))
-
-pub few_ports : (first : List ℕ) → number_of (reading first) ≡ 0 → count_of first ≤ 64
-few_ports first e = let got = sound first e in subst (λ (n : ℕ). n ≤ 64) (count_read first got.0 got.1) (count_few first got.0 got.1)

@@ -1,13 +1,10 @@
 -- A run that is written into a room record by record stands there whole.
 -- Assumes nothing.
 use Prim.Native.Nat.{ℕ, zero, suc, ◌+◌, ◌≤◌}
-use mathlib.Core.Bool.{Bool, true, false, cond}
 use mathlib.Core.List.{List, [], ◌∷◌, ◌++◌}
 use mathlib.Core.Path.{◌≡◌, refl, sym, ap, ◌∙◌}
 use native.Mathlib.Nat.{zero-add, suc-add, not-suc-le-zero, le_of_suc-le-suc}
 use native.Mathlib.Omega.{arith}
-use borrow.Author.Tests.{eqb-true, le-ltb}
-use lib.Dec.{eqb, ltb}
 use lib.ListN.{length, set, length-set, take, drop}
 use Rattle.changes.specs.declared.Change.{Change}
 use Rattle.changes.specs.Versions.{change_at}
@@ -53,15 +50,3 @@ stands [] run (suc from) l = absurd (omega (arith, l))
 stands (c ∷ room) run (suc from) l =
     further c room run from (length run) ∙ ap (λ (m : List Change). c ∷ m) (stands room run from (omega (arith, l)))
     ∙ ap (λ (n : ℕ). c ∷ (take from room ++ run ++ drop n (c ∷ room))) (sym (suc-add from (length run)))
-
--- the room at the end, unless a number refuses
-pub stood_unless : (room run : List Change) (kept number : ℕ) → (number ≡ 0 → kept + length run ≤ length room)
-    → stood room run (cond (ltb (length room) kept) (length room) kept) (cond (eqb number 0) (length run) 0) ≡ cond (eqb number 0) (behind room kept run) room
-unfolding stood
-stood_unless room run kept number fits = go (eqb number 0) refl
-  where
-    go : (b : Bool) → eqb number 0 ≡ b → stood room run (cond (ltb (length room) kept) (length room) kept) (cond b (length run) 0) ≡ cond b (behind room kept run) room
-    go true e =
-        let there = fits (eqb-true number 0 e) in
-        rw (le-ltb (length room) kept (omega (arith, there))) (stands room run kept there)
-    go false e = refl

@@ -1,3 +1,4 @@
+pub mod Refusals
 pub mod Change
 pub mod Versions
 pub mod Adding

@@ -1,17 +1,18 @@
 // One change of a byte of a picture, and all that a history of changes is made of but the records themselves: which byte a
-// change names, what that byte is after another change, and the numbers 37 to 40.
+// change names, what that byte is after another change, and what refuses a run, a version or winding back.
 #![tactic(auto)]
 
 mod made;
-mod numbers;
 mod places;
+mod readings;
+mod refusals;
+mod room;
 
-pub use made::{first_byte, held_after, lay_first, make_change};
-pub use numbers::{
-    adding_number, as_far, changes_in, held_in, keep, lower_number, reading_number, version_number,
-    wind_back_number,
-};
+pub use made::{first_byte, held_after, make_change};
 pub use places::byte_named;
+pub use readings::{first_picture, version_there, wind_back};
+pub use refusals::HistoryRefusal;
+pub use room::{held_in, room_for};
 
 // A change as the customer lends it: part 0 is the port's record, 1 its vectors, and `at` counts from the part's start.
 #[repr(C)]

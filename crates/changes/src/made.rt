@@ -1,21 +1,20 @@
 // A change made in lent bytes, and what a byte is before and after one.
-ghost use Rattle.std.specs.Prelude.{◌++◌, ◌≡◌, ◌≤◌, length, drop};
-ghost use Rattle.trees.specs.Trees.{count_of};
+ghost use Rattle.std.specs.Prelude.{◌≡◌};
 ghost use Rattle.changes.specs.Change.{byte_named};
 ghost use Rattle.changes.specs.Versions.{made};
-ghost use Rattle.changes.specs.Adding.{byte_at, unless_refused};
+ghost use Rattle.changes.specs.Adding.{byte_at};
 ghost use Rattle.changes.specs.Looking.{held_after};
 
 use crate::Change;
 use crate::places::byte_named;
+use trees::Picture;
 
 // The byte that a change names, as the first picture has it.
-pub fn first_byte(first: &[u8], c: Change) -> u8
-    requires { count_of first.now ≤ 64 }
-    ensures { result ≡ byte_at (byte_named first.now c) first.now }
+pub fn first_byte(first: &Picture, c: Change) -> u8
+    ensures { result ≡ byte_at (byte_named first.now.bytes.now c) first.now.bytes.now }
 {
     match byte_named(first, c) {
-        Some(x) => lent::u8_at(first, x as usize),
+        Some(x) => lent::u8_at(first.bytes, x as usize),
         None => 0,
     }
 }
@@ -34,9 +33,8 @@ pub fn held_after(done: Change, c: Change, held: u8) -> u8
 
 // Makes a change.
 #[tactic(auto, unfolding(crate::specs::Versions::made))]
-pub fn make_change(first: &[u8], out: &mut [u8], c: Change)
-    requires { count_of first.now ≤ 64 }
-    ensures { out.new ≡ made first.now c out.old }
+pub fn make_change(first: &Picture, out: &mut [u8], c: Change)
+    ensures { out.new ≡ made first.now.bytes.now c out.old }
 {
     let named = byte_named(first, c);
     let Some(x) = named else {
@@ -45,15 +43,5 @@ pub fn make_change(first: &[u8], out: &mut [u8], c: Change)
     let at = x as usize;
     if at < out.len() {
         out[at] = c.new_byte;
-    }
-}
-
-// Lays the first picture into a buffer, unless a number refuses.
-pub fn lay_first(first: &[u8], out: &mut [u8], number: u32)
-    requires { number ≡ 0 → length first.now ≤ length out.old }
-    ensures { out.new ≡ unless_refused number (first.now ++ drop (length first.now) out.old) out.old }
-{
-    if number == 0 {
-        out[..first.len()].copy_from_slice(first);
     }
 }

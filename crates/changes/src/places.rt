@@ -1,12 +1,12 @@
 // Which byte a change names, by the layout of the first picture.
-ghost use Rattle.std.specs.Prelude.{◌≡◌, ◌≤◌, ◌<◌, ◌^◌};
-ghost use Rattle.trees.specs.Trees.{count_of};
+ghost use Rattle.std.specs.Prelude.{◌≡◌, ◌<◌, ◌^◌};
 ghost use Rattle.changes.specs.Change.{part_bytes, part_start, byte_named};
 
 use crate::Change;
 use ids::PortNo;
 use picture::all_bytes;
 use registers::{edition_of, record_at, sizes_of, vectors_start};
+use trees::Picture;
 
 // The parts of a port.
 const IN_RECORD: u32 = 0;
@@ -41,18 +41,17 @@ fn part_start(first: &[u8], p: PortNo, part: u32) -> u64
     }
 }
 
-// The byte that a change names, of a picture that can have so many ports.
+// The byte that a change names, of the first picture.
 #[tactic(auto, unfolding(crate::specs::Change::byte_named))]
-pub fn byte_named(first: &[u8], c: Change) -> Option<u64>
-    requires { count_of first.now ≤ 64 }
-    ensures { result ≡ byte_named first.now c }
+pub fn byte_named(first: &Picture, c: Change) -> Option<u64>
+    ensures { result ≡ byte_named first.now.bytes.now c }
 {
-    if lent::u16_at(first, 2) as u32 <= c.port {
+    if first.count as u32 <= c.port {
         return None;
     }
     let p = PortNo(c.port as u8);
-    if part_bytes(first, p, c.part) <= c.at as u64 {
+    if part_bytes(first.bytes, p, c.part) <= c.at as u64 {
         return None;
     }
-    Some(part_start(first, p, c.part) + c.at as u64)
+    Some(part_start(first.bytes, p, c.part) + c.at as u64)
 }

@@ -1,3 +1,4 @@
+pub mod HistoryCalls
 pub mod Forty
 pub mod CheckCalls
 pub mod WalkCalls

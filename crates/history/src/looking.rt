@@ -12,10 +12,8 @@ pub fn byte_before(changes: &[Change], k: usize, c: Change, held: u8) -> u8
     ensures { result ≡ held_up_to changes.now c held k }
 {
     let mut byte = held;
-    let mut i = 0usize;
-    while i < k {
+    for i in 0..k {
         byte = held_after(record_at(changes, i), c, byte);
-        i = i + 1;
     }
     byte
 }

@@ -1,5 +1,5 @@
 // One record of the changes lent.
-ghost use Rattle.std.specs.Prelude.{◌≡◌, ◌<◌, length, set};
+ghost use Rattle.std.specs.Prelude.{◌≡◌, ◌<◌, length};
 ghost use Rattle.changes.specs.Versions.{change_at};
 
 use changes::Change;
@@ -11,12 +11,4 @@ pub fn record_at(changes: &[Change], i: usize) -> Change
     ensures { result ≡ change_at changes.now i }
 {
     changes[i]
-}
-
-// Sets the record at i.
-pub fn set_record(room: &mut [Change], i: usize, c: Change)
-    requires { i < length room.old }
-    ensures { room.new ≡ set room.old i c }
-{
-    room[i] = c;
 }

@@ -1,12 +1,11 @@
-use Rattle.std.proofs.Common.{length, sym, ◌∙◌}
-use Rattle.changes.proofs.Added.{adding_zero, records_left}
-use Rattle.changes.proofs.Histories.{fits_in}
+use Rattle.std.proofs.Common.{sym, ap, ◌∙◌, arith}
+use Rattle.changes.specs.Refusals.{answer_number}
+use Rattle.fiswalend.proofs.HistoryCalls.{stands_behind}
 use Rattle.fiswalend.proofs.add_call.fpb_history_add.Goals as goal
 
-pub stand-requires : goal.stand-requires
-stand-requires c = λ z. fits_in c.args.first.now c.args.room.now c.args.run.now c.args.kept (sym c.number_of_adding-number.ensures ∙ z)
-
-pub keep-requires : goal.keep-requires
-keep-requires c = λ z.
-    (records_left (length c.args.room.now) c.args.kept (length c.args.run.now)
-    (adding_zero c.args.first.now c.args.room.now c.args.run.now c.args.kept (sym c.number_of_adding-number.ensures ∙ z)).room_left).1
+pub returns-in-Ok : goal.returns-in-Ok
+returns-in-Ok c = record {
+  number_is = ap answer_number (sym c.in-Ok.is) ∙ c.accept.ensures.number;
+  room_is = stands_behind _ _ _ _ _ c.copy_from_slice.ensures.after (omega arith);
+  kept_is = c.in-Ok.ensures.kept.0;
+}

@@ -1,31 +1,27 @@
-use Rattle.std.proofs.Common.{length, sym, ◌∙◌, arith}
+use Rattle.std.proofs.Common.{◌≡◌, ◌++◌, length, drop, sym, ap, ◌∙◌, arith}
+use Rattle.changes.specs.Versions.{made, made_up_to}
+use Rattle.changes.specs.ReadingBack.{version_number}
 use Rattle.changes.proofs.BackRead.{back_zero}
-use Rattle.changes.proofs.Turns.{turn, before_any, one_more, after_turns}
+use Rattle.fiswalend.proofs.HistoryCalls.{before_any, one_more, after_all}
 use Rattle.fiswalend.proofs.version_call.fpb_history_version.Goals as goal
 
-pub lay_first-requires : goal.lay_first-requires
-lay_first-requires c = λ z.
-    (back_zero c.args.first.now (length c.args.room.now) (length c.args.out.now) c.args.kept c.args.k (sym c.version_number-number.ensures ∙ z)).long_enough
-
 pub loop-i-init : goal.loop-i-init
-loop-i-init c = (omega arith, c.lay_first.ensures ∙ before_any c.args.first.now c.args.room.now c.args.out.now c.version_number-number.result)
-
-pub record_at-requires : goal.record_at-requires
-record_at-requires c =
-    (turn _ _ (length c.args.out.now) _ _ _ _ _ c.version_number-number.ensures c.changes_in-n.ensures c.loop-i-test.true).there
-
-pub make_change-requires : goal.make_change-requires
-make_change-requires c =
-    (turn _ c.args.room.now (length c.args.out.now) _ _ _ _ _ c.version_number-number.ensures c.changes_in-n.ensures c.loop-i-test.true).few
+loop-i-init c = before_any _ _ _ _ (ap (λ l. l ++ drop (length c.args.first.now) c.args.out.now) c.copy_from_slice.ensures.after)
 
 pub loop-i-preserved : goal.loop-i-preserved
-loop-i-preserved c = (
-  omega arith,
-  c.make_change.ensures ∙ one_more _ _ _ _ _ _ c.record_at.ensures c.loop-i.invariant.1,
-)
+loop-i-preserved c =
+    c.make_change.ensures
+    ∙ ap (λ first. made first c.record_at.result c.loop-i.out) c.in-Ok.ensures.picture.0
+    ∙ one_more _ _ _ _ _ _ c.record_at.ensures c.loop-i.invariant
 
 pub returns : goal.returns
-returns c = record {
-  number_is = c.version_number-number.ensures;
-  buffer_is = after_turns _ _ _ _ _ _ _ _ _ c.version_number-number.ensures c.changes_in-n.ensures c.loop-i.invariant.0 c.loop-i-test.false c.loop-i.invariant.1;
-}
+returns c =
+    let number : 0 ≡ version_number c.args.first.now (length c.args.room.now) (length c.args.out.now) c.args.kept c.args.k = c.in-Ok.ensures.number in
+    let all : c.loop-i.i ≡ c.args.k = omega (arith, c.loop-i-test.false, c.loop-i.auto.i-end) in
+    record {
+      number_is = number;
+      buffer_is =
+          c.loop-i.invariant
+          ∙ ap (made_up_to c.args.first.now c.args.room.now (c.args.first.now ++ drop (length c.args.first.now) c.args.out.now)) all
+          ∙ after_all c.args.first.now c.args.room.now c.args.out.now c.args.k (back_zero _ _ _ _ _ (sym number)).read;
+    }
