@@ -62,6 +62,7 @@ impl Grid {
     ghost use Rattle.spans.specs.Grids.{hit_in, missed_in};
 
     // The next target within the range that is hit, or the best so far, if that is sooner; the vector is read only if it can be.
+    #[inline(always)]
     #[tactic(auto, using(crate::proofs::OfGrids::hit_in_best, crate::proofs::OfGrids::hit_in_lem, crate::proofs::OfGrids::hit_in_past))]
     pub fn next_hit(&self, v: &[u8], from: u64, best: Option<u64>) -> Option<u64>
         ensures { result ≡ soonest best (first_in (hit_in v.now self.now) from (2 ^ 64)) }

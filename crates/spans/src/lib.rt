@@ -31,6 +31,7 @@ impl Reached<'_> {
     ghost use Rattle.spans.specs.Reaches.{reaches, misses, skipped};
 
     // The next target, from `from` on, that is reached.
+    #[inline(never)]
     #[tactic(auto, using(crate::proofs::OfReaches::reach_first))]
     pub fn next_reached(&self, from: u64) -> Option<u64>
         ensures { result ≡ first_in (reaches self.now.reach.now self.now.one.now self.now.other.now) from (2 ^ 64) }
