@@ -27,6 +27,7 @@ fn begin(s: Settings, from: u64, i: u64) -> Option<u64>
 }
 
 // The next target whose entry is set.
+#[inline(always)]
 #[tactic(auto, using(crate::proofs::OfGrids::hit_at, crate::proofs::OfGrids::hit_none))]
 fn next_hit(v: &Vector, from: u64) -> Option<u64>
     ensures { result ≡ first_in (hits v.now.bytes.now v.now.settings) from (2 ^ 64) }
@@ -38,6 +39,7 @@ fn next_hit(v: &Vector, from: u64) -> Option<u64>
 }
 
 // The next target whose entry is not set, or that has none.
+#[inline(always)]
 #[tactic(auto, using(crate::proofs::OfGrids::miss_at, crate::proofs::OfGrids::miss_below, crate::proofs::OfGrids::miss_end))]
 fn next_miss(v: &Vector, from: u64) -> Option<u64>
     ensures { result ≡ first_in (unset v.now.bytes.now v.now.settings) from (2 ^ 64) }
