@@ -8,9 +8,9 @@ ghost use Rattle.least.specs.Least.{soonest, is_by};
 pub fn sooner(a: Option<u64>, b: Option<u64>) -> Option<u64>
     ensures { result ≡ soonest a b }
 {
-    match (a, b) {
-        (Some(i), Some(j)) => Some(i.min(j)),
-        _ => a.or(b),
+    match a {
+        Some(i) => Some(b.map_or(i, |j| i.min(j))),
+        None => b,
     }
 }
 

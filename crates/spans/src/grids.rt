@@ -27,6 +27,7 @@ fn begin(s: Settings, from: u64, i: u64) -> Option<u64>
 }
 
 // The next target whose entry is set.
+#[inline(always)]
 #[tactic(auto, using(crate::proofs::OfGrids::hit_at, crate::proofs::OfGrids::hit_none))]
 fn next_hit(v: &Vector, from: u64) -> Option<u64>
     ensures { result ≡ first_in (hits v.now.bytes.now v.now.settings) from (2 ^ 64) }
@@ -38,6 +39,7 @@ fn next_hit(v: &Vector, from: u64) -> Option<u64>
 }
 
 // The next target whose entry is not set, or that has none.
+#[inline(always)]
 #[tactic(auto, using(crate::proofs::OfGrids::miss_at, crate::proofs::OfGrids::miss_below, crate::proofs::OfGrids::miss_end))]
 fn next_miss(v: &Vector, from: u64) -> Option<u64>
     ensures { result ≡ first_in (unset v.now.bytes.now v.now.settings) from (2 ^ 64) }
@@ -62,6 +64,7 @@ impl Grid {
     ghost use Rattle.spans.specs.Grids.{hit_in, missed_in};
 
     // The next target within the range that is hit, or the best so far, if that is sooner; the vector is read only if it can be.
+    #[inline(always)]
     #[tactic(auto, using(crate::proofs::OfGrids::hit_in_best, crate::proofs::OfGrids::hit_in_lem, crate::proofs::OfGrids::hit_in_past))]
     pub fn next_hit(&self, v: &[u8], from: u64, best: Option<u64>) -> Option<u64>
         ensures { result ≡ soonest best (first_in (hit_in v.now self.now) from (2 ^ 64)) }

@@ -22,7 +22,7 @@ pub struct Reach {
 // A reach with the vectors of its two grids.
 #[derive(Clone, Copy)]
 pub struct Reached<'a> {
-    pub reach: Reach,
+    pub reach: &'a Reach,
     pub one: &'a [u8],
     pub other: &'a [u8],
 }
@@ -31,11 +31,12 @@ impl Reached<'_> {
     ghost use Rattle.spans.specs.Reaches.{reaches, misses, skipped};
 
     // The next target, from `from` on, that is reached.
+    #[inline(never)]
     #[tactic(auto, using(crate::proofs::OfReaches::reach_first))]
     pub fn next_reached(&self, from: u64) -> Option<u64>
-        ensures { result ≡ first_in (reaches self.now.reach self.now.one.now self.now.other.now) from (2 ^ 64) }
+        ensures { result ≡ first_in (reaches self.now.reach.now self.now.one.now self.now.other.now) from (2 ^ 64) }
     {
-        let d = &self.reach;
+        let d = self.reach;
         let on_ranges = least::sooner(d.first.next_in(from), d.second.next_in(from));
         let with_one = d.one.next_hit(self.one, from, on_ranges);
         d.other.next_hit(self.other, from, with_one)
@@ -45,9 +46,9 @@ impl Reached<'_> {
     // exactly if it is not reached.
     #[tactic(auto, unfolding(crate::specs::Reaches::skipped))]
     fn skip(&self, i: u64) -> Option<u64>
-        ensures { result ≡ skipped self.now.reach self.now.one.now self.now.other.now i }
+        ensures { result ≡ skipped self.now.reach.now self.now.one.now self.now.other.now i }
     {
-        let d = &self.reach;
+        let d = self.reach;
         let past_first = d.first.next_out(i)?;
         let past_ranges = d.second.next_out(past_first)?;
         let past_one = d.one.next_miss(self.one, past_ranges)?;
@@ -57,7 +58,7 @@ impl Reached<'_> {
     // The next target, from `from` on, that is not reached.
     #[tactic(auto, using(crate::proofs::OfReaches::skip_found, crate::proofs::OfReaches::skip_none))]
     pub fn next_unreached(&self, from: u64) -> Option<u64>
-        ensures { result ≡ first_in (misses self.now.reach self.now.one.now self.now.other.now) from (2 ^ 64) }
+        ensures { result ≡ first_in (misses self.now.reach.now self.now.one.now self.now.other.now) from (2 ^ 64) }
     {
         let mut i = from;
         loop {

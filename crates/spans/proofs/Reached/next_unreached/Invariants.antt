@@ -5,7 +5,7 @@ use Rattle.std.proofs.Common.{◌-◌, ◌^◌, ◌≤◌}
 use Rattle.spans.proofs.Reached.next_unreached.Given as goal
 
 abbrev pub invariant-loop-k : goal.invariant-loop-k
-invariant-loop-k l = (l.from ≤ l.i) × NoneIn (misses l.self.reach l.self.one.now l.self.other.now) l.from l.i
+invariant-loop-k l = (l.from ≤ l.i) × NoneIn (misses l.self.reach.now l.self.one.now l.self.other.now) l.from l.i
 
 abbrev pub decreases-loop-k : goal.decreases-loop-k
 decreases-loop-k l = 2 ^ 64 - l.i
