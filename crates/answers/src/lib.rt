@@ -43,12 +43,14 @@ pub fn without_places(h: Head) -> [u8; ANSWER_BYTES]
 }
 
 // An answer whose places are those of a path.
-#[tactic(auto, unfolding(crate::specs::Answers::answer_bytes, crate::specs::Answers::head_bytes, crate::specs::Answers::no_places, crate::specs::Answers::path_places))]
+#[tactic(auto, using(crate::proofs::Laws::Filled, crate::proofs::Laws::filled_all, crate::proofs::Laws::filled_more, crate::proofs::Laws::filled_none))]
 pub fn with_path(h: Head, places: [PortNo; 32]) -> [u8; ANSWER_BYTES]
     ensures { result ≡ answer_bytes h (path_places places) }
 {
     let mut out = without_places(h);
-    out[8..].copy_from_slice(&places.map(|p| p.0));
+    for (i, p) in places.iter().enumerate() {
+        out[8 + i] = p.0;
+    }
     out
 }
 

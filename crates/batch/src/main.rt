@@ -20,9 +20,9 @@ struct Lengths {
 fn take_bytes(from: &mut impl Read, buffer: &mut [u8]) -> io::Result<usize> {
     let n = fields::take_u32(from)? as usize;
     if n <= buffer.len() {
-        return inputs::read_full(from, &mut buffer[..n]);
+        return Ok(inputs::read_full(from, &mut buffer[..n])?.len());
     }
-    let taken = inputs::read_full(from, buffer)?;
+    let taken = inputs::read_full(from, buffer)?.len();
     fields::skip(from, n - buffer.len())?;
     Ok(taken)
 }

@@ -21,6 +21,6 @@ fn main(rt: HostRuntime) -> io::Result<()> {
         return eprintln!(rt; "usage: claims id|addr TARGET <PICTURE; TARGET is hexadecimal");
     };
     let mut buffer = [0u8; 65537];
-    let n = inputs::read_full(&mut rt.stdin(), &mut buffer)?;
-    reports::print_holders(&rt, &buffer[..n], kind as u32, target, b'\n')
+    let picture = inputs::read_full(&mut rt.stdin(), &mut buffer)?;
+    reports::print_holders(&rt, picture, kind as u32, target, b'\n')
 }

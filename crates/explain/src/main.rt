@@ -20,16 +20,16 @@ fn print_lines<'a>(rt: &impl Print, picture: &'a [u8], patch: Option<&'a [u8]>) 
 
 // What is said of the picture, which is read so far that one byte more than it may have shows, and of the patch.
 fn explain(rt: &HostRuntime, patch: Option<&[u8]>) -> io::Result<()> {
-    let mut picture = [0u8; 65537];
-    let n = inputs::read_full(&mut rt.stdin(), &mut picture)?;
-    print_lines(rt, &picture[..n], patch)
+    let mut buffer = [0u8; 65537];
+    let picture = inputs::read_full(&mut rt.stdin(), &mut buffer)?;
+    print_lines(rt, picture, patch)
 }
 
 // The same with a patch; of a longer file the first 131,073 bytes are judged.
 fn explain_trial(rt: &HostRuntime, file: &mut impl Read) -> io::Result<()> {
-    let mut patch = [0u8; 131073];
-    let n = inputs::read_full(file, &mut patch)?;
-    explain(rt, Some(&patch[..n]))
+    let mut buffer = [0u8; 131073];
+    let patch = inputs::read_full(file, &mut buffer)?;
+    explain(rt, Some(patch))
 }
 
 fn main(rt: HostRuntime) -> io::Result<()> {

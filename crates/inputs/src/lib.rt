@@ -8,19 +8,19 @@ use std::fs::{File, Files};
 use std::io;
 use std::io::{Cursor, Error, ErrorKind, Read, Write};
 
-// Fills a buffer, or as much of it as there are bytes until the end; how many there were.
-pub fn read_full(from: &mut impl Read, buffer: &mut [u8]) -> io::Result<usize>
-    ensures { IfOk result (λ n. n ≤ length buffer.new) }
+// Fills a buffer, or as much of it as there are bytes until the end; the bytes that there were.
+pub fn read_full<'a>(from: &mut impl Read, buffer: &'a mut [u8]) -> io::Result<&'a [u8]>
+    ensures { IfOk result (λ bytes. length bytes.now ≤ length buffer.old) }
 {
     let mut done = 0;
     while done < buffer.len() {
         let n = from.read(&mut buffer[done..])?;
         if n == 0 {
-            return Ok(done);
+            break;
         }
         done += n;
     }
-    Ok(done)
+    Ok(&buffer[..done])
 }
 
 // Whether the command line has a word i; word 0 is the program's name.

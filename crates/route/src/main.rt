@@ -49,7 +49,7 @@ fn main(rt: HostRuntime) -> io::Result<()> {
     };
     let kind = question.kind as u32;
     let mut buffer = [0u8; 65537];
-    let n = inputs::read_full(&mut rt.stdin(), &mut buffer)?;
-    let answer = judge::walk(&buffer[..n], kind, question.start, question.target);
+    let picture = inputs::read_full(&mut rt.stdin(), &mut buffer)?;
+    let answer = judge::walk(picture, kind, question.start, question.target);
     reports::walk_lines(kind, answer).print(&rt)
 }

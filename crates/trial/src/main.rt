@@ -8,11 +8,11 @@ use std::io::Read;
 // What the judge says of the picture and the file. No patch of more than 65,480 bytes is accepted; of a file of more than twice
 // as many the first 131,073 are judged.
 fn try_patch(rt: HostRuntime, file: &mut impl Read) -> io::Result<()> {
-    let mut patch = [0u8; 131073];
-    let n = inputs::read_full(file, &mut patch)?;
-    let mut picture = [0u8; 65537];
-    let m = inputs::read_full(&mut rt.stdin(), &mut picture)?;
-    reports::trial_lines(&picture[..m], &patch[..n]).print(&rt)
+    let mut patch_buffer = [0u8; 131073];
+    let patch = inputs::read_full(file, &mut patch_buffer)?;
+    let mut picture_buffer = [0u8; 65537];
+    let picture = inputs::read_full(&mut rt.stdin(), &mut picture_buffer)?;
+    reports::trial_lines(picture, patch).print(&rt)
 }
 
 fn main(rt: HostRuntime) -> io::Result<()> {

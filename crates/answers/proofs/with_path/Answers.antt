@@ -1,12 +1,14 @@
-use Rattle.std.proofs.Common.{◌≡◌, rules, arith, length, ◌∙◌, sym}
-use Rattle.ids.specs.Ids.{no_port}
-use Rattle.answers.specs.Answers.{answer_bytes, head_bytes, no_places, path_places}
-use Rattle.answers.proofs.Laws.{all_places}
+use Rattle.std.proofs.Common.{◌≡◌, subst, arith, rules}
+use Rattle.answers.proofs.Laws.{Filled, filled_none, filled_more, filled_all}
 use Rattle.answers.proofs.with_path.Goals as goal
 
+pub loop-i-init : goal.loop-i-init
+loop-i-init c = filled_none _ _ (search rules)
+
+pub loop-i-preserved : goal.loop-i-preserved
+loop-i-preserved c = filled_more _ _ _ (search rules) c.loop-i.i _ (omega arith) c.loop-i.invariant
+
 pub returns : goal.returns
-unfolding answer_bytes head_bytes no_places
 returns c =
-    let all : length c.args.places ≡ 32 = search rules in
-    let is : c.map.result ≡ path_places c.args.places = all_places _ _ (c.map.ensures.items.long ∙ sym all) (λ k d l. let w = c.map.ensures.items.at k no_port d (omega arith) in search rules) in
-    rw (← is) (search rules)
+    let last : c.loop-i.i ≡ 32 = omega arith in
+    filled_all _ _ _ (search rules) _ c.without_places-out.ensures (subst (Filled _ _ _) last c.loop-i.invariant)
