@@ -1,7 +1,9 @@
 -- The byte that is found by looking through the changes so far is the one that the version before a change holds.
 -- Assumes nothing.
+use Rattle.chassis.specs.Tree.{any_below}
+use native.Mathlib.Numerals.{add-one}
 use Prim.Native.Nat.{ℕ, zero, suc, ◌+◌, ◌-◌, ◌<◌, ◌≤◌}
-use mathlib.Core.Bool.{Bool, true, false, cond, not, ◌&&◌}
+use mathlib.Core.Bool.{Bool, true, false, cond, not, ◌&&◌, ◌||◌}
 use mathlib.Core.List.{List}
 use mathlib.Core.Path.{◌≡◌, refl, sym, ap, ◌∙◌, subst}
 use native.Mathlib.Nat.{le_refl, zero-add, suc-add}
@@ -16,8 +18,8 @@ use Rattle.trees.specs.Trees.{count_of}
 use Rattle.changes.specs.declared.Change.{Change}
 use Rattle.changes.specs.Change.{part_bytes, byte_named}
 use Rattle.changes.specs.Versions.{byte_set, made, no_change, change_at, made_up_to, version}
-use Rattle.changes.specs.Adding.{byte_at, is_another, old_wrong}
-use Rattle.changes.specs.Looking.{same_byte, held_after, held_up_to}
+use Rattle.changes.specs.Adding.{byte_at, is_another, old_wrong, names_none, run_number}
+use Rattle.changes.specs.Looking.{same_byte, held_after, held_up_to, lower}
 use Rattle.changes.proofs.Named.{named, within, same_place}
 use Rattle.changes.proofs.Reading.{Read-as}
 use Rattle.std.specs.Prelude.{Option, Some, None}
@@ -120,3 +122,19 @@ wrong_is first room run kept i sound = go (byte_named first (change_at run i)) r
         (ap (λ (b : ℕ). held_up_to run c b i) (held_is first sound c x e room first refl held ∙ ap (λ (bytes : List ℕ). get_or bytes x 0) (version_held first room kept))
         ∙ held_is first sound c x e run (version first room kept) (up_to_length first room first kept) i)
     go None e = refl
+
+-- 37 and 38 over one change more
+pub number_more : (first bytes : List ℕ) (run : List Change) (i : ℕ) → lower (run_number first bytes run i) (names_none first run i) (old_wrong first bytes run i) ≡ run_number first bytes run (i + 1)
+unfolding run_number any_below
+number_more first bytes run i =
+    rw (add-one i) (go (any_below (names_none first run) i) (names_none first run i) (any_below (old_wrong first bytes run) i) (old_wrong first bytes run i))
+  where
+    go : (n m w v : Bool) → lower (cond n 37 (cond w 38 0)) m v ≡ cond (n || m) 37 (cond (w || v) 38 0)
+    go true true w v = refl
+    go true false true v = refl
+    go true false false v = refl
+    go false true w v = refl
+    go false false true true = refl
+    go false false true false = refl
+    go false false false true = refl
+    go false false false false = refl

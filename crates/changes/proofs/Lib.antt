@@ -6,3 +6,4 @@ pub mod BackRead
 pub mod Stood
 pub mod Added
 pub mod Histories
+pub mod Turns

@@ -1,14 +1,16 @@
 -- A picture with number 0 reads, and then has no more ports than can be.
 -- Assumes nothing.
-use Prim.Native.Nat.{ℕ, ◌<◌}
-use mathlib.Core.Bool.{Bool, true, false}
+use borrow.Author.Tests.{eqb-true}
+use lib.Dec.{eqb}
+use Prim.Native.Nat.{ℕ, ◌<◌, ◌≤◌}
+use mathlib.Core.Bool.{Bool, true, false, cond}
 use mathlib.Core.List.{List}
-use mathlib.Core.Path.{◌≡◌, refl}
+use mathlib.Core.Path.{◌≡◌, refl, subst}
 use native.Mathlib.Omega.{arith}
 use lib.ListN.{length}
 use Rattle.least.specs.Least.{first_in}
 use Rattle.trees.specs.Trees.{count_of}
-use Rattle.picture.proofs.WhatReads.{Reads, reads}
+use Rattle.picture.proofs.WhatReads.{Reads, reads, count_read, count_few}
 use Rattle.picture.specs.declared.Header.{Header}
 use Rattle.picture.specs.declared.refusals.Rule.TheVariants.{Tree, Chain, Settings, Start}
 use Rattle.picture.specs.Header.{header_of, length_wrong, edition_wrong, count_wrong, total_wrong, offset_wrong}
@@ -53,3 +55,14 @@ sound first =
 
 pub reads_zero : (first : List ℕ) → number_of (reading first) ≡ 0 → Read-as first
 reads_zero first e = let got = sound first e in record { header = got.0; all = reads first got.0 got.1 }
+
+-- what a loop that goes as far as the reading lets it knows in each turn
+pub reads_far : (first : List ℕ) (m i : ℕ) → i < cond (eqb (number_of (reading first)) 0) m 0 → number_of (reading first) ≡ 0
+reads_far first m i l = go (eqb (number_of (reading first)) 0) refl l
+  where
+    go : (b : Bool) → eqb (number_of (reading first)) 0 ≡ b → i < cond b m 0 → number_of (reading first) ≡ 0
+    go true e l = eqb-true _ _ e
+    go false e l = absurd (omega (arith, l))
+
+pub few_ports : (first : List ℕ) → number_of (reading first) ≡ 0 → count_of first ≤ 64
+few_ports first e = let got = sound first e in subst (λ (n : ℕ). n ≤ 64) (count_read first got.0 got.1) (count_few first got.0 got.1)

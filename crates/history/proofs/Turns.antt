@@ -1,5 +1,5 @@
 -- What one turn of a loop over changes makes of what the turns before it did.
-use Rattle.std.proofs.Common.{ℕ, ◌+◌, ◌<◌, ◌≡◌, Bool, true, false, not, ◌&&◌, cond, eqb, ltb, List, length, refl, sym, ◌∙◌, add-one}
+use Rattle.std.proofs.Common.{ℕ, ◌+◌, ◌<◌, ◌≡◌, Bool, true, false, not, ◌&&◌, cond, eqb, ltb, List, length, refl, sym, ◌∙◌, add-one, subst, arith, ap, ◌≤◌}
 use Rattle.std.specs.Prelude.{Option, Some, None, is_some}
 use Rattle.chassis.specs.Tree.{any_below}
 use Rattle.chassis.proofs.Ports.{any_below_at}
@@ -7,10 +7,10 @@ use Rattle.picture.specs.Reading.{reading, number_of}
 use Rattle.changes.specs.declared.Change.{Change}
 use Rattle.changes.specs.Change.{byte_named}
 use Rattle.changes.specs.Versions.{change_at, version}
-use Rattle.changes.specs.Adding.{is_none, byte_at, is_another, old_wrong}
-use Rattle.changes.specs.Looking.{held_after, held_up_to}
-use Rattle.changes.proofs.Reading.{reads_zero}
-use Rattle.changes.proofs.Held.{wrong_is}
+use Rattle.changes.specs.Adding.{is_none, byte_at, is_another, old_wrong, names_none, run_number, room_full, else_number, adding_number}
+use Rattle.changes.specs.Looking.{held_after, held_up_to, lower}
+use Rattle.changes.proofs.Reading.{reads_zero, reads_far}
+use Rattle.changes.proofs.Held.{wrong_is, number_more}
 
 pub looked_none : (changes : List Change) (c : Change) (held : ℕ) → held_up_to changes c held 0 ≡ held
 unfolding held_up_to
@@ -54,3 +54,33 @@ one_passes test n i l here = sym (any_below_at test n i l (sym here))
 pub not_named : (found : Option ℕ) → is_some found ≡ false → true ≡ is_none found
 not_named (Some x) e = e
 not_named None e = refl
+
+pub number_turn : (first : List ℕ) (room run : List Change) (kept i n read number held kept_byte byte : ℕ) (c : Change)
+    → read ≡ number_of (reading first)
+    → n ≡ cond (eqb read 0) (length run) 0
+    → i < n
+    → c ≡ change_at run i
+    → held ≡ cond (ltb (length room) kept) (length room) kept
+    → kept_byte ≡ held_up_to room c (byte_at (byte_named first c) first) held
+    → byte ≡ held_up_to run c kept_byte i
+    → number ≡ run_number first (version first room kept) run i
+    → lower number (is_none (byte_named first c)) (is_another (byte_named first c) byte c.old_byte) ≡ run_number first (version first room kept) run (i + 1)
+unfolding names_none
+number_turn first room run kept i n read number held kept_byte byte c is_read is_n more is_c is_held is_kept is_byte is_number =
+    rw (is_byte, is_kept, is_held, is_c, is_number)
+    (ap (lower (run_number first (version first room kept) run i) (is_none (byte_named first (change_at run i)))) (wrong_is first room run kept i (reads_zero first (reads_far first (length run) i (subst (λ (m : ℕ). i < m) (is_n ∙ ap (λ (r : ℕ). cond (eqb r 0) (length run) 0) is_read) more))))
+    ∙ number_more first (version first room kept) run i)
+
+pub number_end : (first : List ℕ) (room run : List Change) (kept i n read number : ℕ)
+    → read ≡ number_of (reading first)
+    → n ≡ cond (eqb read 0) (length run) 0
+    → i ≤ n → n ≤ i
+    → number ≡ run_number first (version first room kept) run i
+    → else_number read (else_number number (cond (room_full (length room) kept (length run)) 39 0)) ≡ adding_number first room run kept
+unfolding adding_number
+number_end first room run kept i n read number is_read is_n low high is_number = go (eqb read 0) refl
+  where
+    go : (b : Bool) → eqb read 0 ≡ b → cond b (else_number number (cond (room_full (length room) kept (length run)) 39 0)) read
+        ≡ else_number (number_of (reading first)) (else_number (run_number first (version first room kept) run (length run)) (cond (room_full (length room) kept (length run)) 39 0))
+    go true e = let all : i ≡ length run = omega (arith, low, high, is_n ∙ ap (λ (b : Bool). cond b (length run) 0) e) in rw (is_number, all, sym is_read, e) refl
+    go false e = rw (sym is_read, e) refl

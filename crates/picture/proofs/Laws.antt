@@ -26,6 +26,7 @@ use Rattle.picture.specs.declared.refusals.Rule.{Rule}
 use Rattle.picture.specs.declared.refusals.Rule.TheVariants.{Tree, Chain, Settings, Start}
 use Rattle.picture.specs.declared.refusals.Refusal.TheVariants.{Breaks, Misplaced}
 use Rattle.ids.specs.declared.PortNo.{PortNo}
+use Rattle.ids.specs.Ids.{port_no}
 use Rattle.std.specs.Prelude.{Option, Some, None, Result, Ok, Err}
 
 -- whether a port's vectors start at the running offset
@@ -109,3 +110,20 @@ as_looked s h n header count =
   where
     broken : Rule → Option ℕ
     broken rule = first_in (breaks rule s) 0 (count_of s)
+
+-- a reading so far, or the refusal with the port that the next number has found
+abbrev pub then_at : Result Header Refusal → Option ℕ → (PortNo → Refusal) → Result Header Refusal
+then_at (Err r) found refusal = Err r
+then_at (Ok h) (Some p) refusal = Err (refusal (port_no p))
+then_at (Ok h) None refusal = Ok h
+
+-- numbers looked for one after the other are a chain of refusals
+pub chained : (h : Header) (a b c d e : Option ℕ) (f g k l m : PortNo → Refusal)
+    → then_at (then_at (then_at (then_at (then_at (Ok h) a f) b g) c k) d l) e m
+    ≡ refused_at a f (refused_at b g (refused_at c k (refused_at d l (refused_at e m (Ok h)))))
+chained h (Some p) b c d e f g k l m = refl
+chained h None (Some p) c d e f g k l m = refl
+chained h None None (Some p) d e f g k l m = refl
+chained h None None None (Some p) e f g k l m = refl
+chained h None None None None (Some p) f g k l m = refl
+chained h None None None None None f g k l m = refl

@@ -2,7 +2,8 @@ use Rattle.std.proofs.Common.{◌≡◌, ◌++◌, length, drop, sym, ap, ◌∙
 use Rattle.changes.specs.Versions.{made, made_up_to}
 use Rattle.changes.specs.ReadingBack.{version_number}
 use Rattle.changes.proofs.BackRead.{back_zero}
-use Rattle.fiswalend.proofs.HistoryCalls.{before_any, one_more, after_all}
+use Rattle.changes.proofs.Turns.{one_more}
+use Rattle.fiswalend.proofs.HistoryCalls.{before_any, after_all}
 use Rattle.fiswalend.proofs.version_call.fpb_history_version.Goals as goal
 
 pub loop-i-init : goal.loop-i-init
