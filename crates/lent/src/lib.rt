@@ -52,18 +52,8 @@ pub fn u64_at(s: &[u8], i: usize) -> u64
 {
     match bytes_at(s, i) {
         Some(bytes) => u64::from_le_bytes(bytes),
-        None => by_halves(s, i),
+        None => u32_at(s, i) as u64 + 4294967296 * (u32_at(s, i + 4) as u64),
     }
-}
-
-// The same near the end, apart, so that a loop that reads words stays short in the machine.
-#[cold]
-#[inline(never)]
-fn by_halves(s: &[u8], i: usize) -> u64
-    requires { i < 2 ^ 61 }
-    ensures { result ≡ u32_at s.now i + 4294967296 * u32_at s.now (i + 4) }
-{
-    u32_at(s, i) as u64 + 4294967296 * (u32_at(s, i + 4) as u64)
 }
 
 // The n bytes from a on, or as many of them as there are.
