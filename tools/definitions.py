@@ -133,9 +133,14 @@ def imported(module, path):
 
 
 def declared_type(crate, way, name):
-    """A type that the kit makes from one of src/, by the type's name or a variant's."""
-    found = [t for t in types_named(crate, way[-1]) if t.module.way == way[:-1] and re.search(rf"\b{name}\b", t.rattle)]
-    return found[0] if found else None
+    """A type that the kit makes from one of src/, by the type's name or a variant's: where it is declared, or where `use` passes it on."""
+    *above, last = way
+    for module in (module for module in sources if module.crate == crate and module.way == above):
+        if last in module.names:
+            return module.names[last] if re.search(rf"\b{name}\b", module.names[last].rattle) else None
+        if last in module.modules:
+            return declared_type(crate, [part for part in module.modules[last].split("::") if part != "crate"], name)
+    return None
 
 
 def types_named(crate, name):
