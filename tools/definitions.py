@@ -1,5 +1,6 @@
 #!/usr/bin/env python3
 """The definitions of crates/*/specs, the types and contracts of crates/*/src, and what each of them cites, for tools/believed.py.
+What a struct or an impl says by `ghost` counts as a contract.
 
 A word that is spelled as a definition in scope counts as citing it, though it may be a variable there: nothing cited is missed.
 Names of the kit are not followed. What cannot be found stands in `problems`."""
@@ -11,12 +12,13 @@ from pathlib import Path
 ROOT = Path(__file__).resolve().parent.parent
 CRATES = ROOT / "crates"
 
-USE = re.compile(r"(?m)^((?:unfoldable |pub |ghost )*)use ([^\s{;]+?)(?:(?:\.|::)\{([^}]*)\}|(\.\*)| as ([^\s;]+))?;?$")
+USE = re.compile(r"(?m)^ *((?:unfoldable |pub |ghost )*)use ([^\s{;]+?)(?:(?:\.|::)\{([^}]*)\}|(\.\*)| as ([^\s;]+))?;?$")
 DECLARED = re.compile(r"(?m)^((?:(?:unfoldable|abbrev|axiom|pub) )*)(?:(record|data) (\S+)|(\S+)(?: \{[^}]*\})? :(?=\s|$))")
 CONSTRUCTOR = re.compile(r"(?m)^  (\S[^:\n]*?) :(?=\s|$)")
 TYPE = re.compile(r"(?m)^(pub )?(?:struct|enum) (\w+)(?:[^{;]*;|[^{;]*\{[^{}]*(?:\{[^{}]*\}[^{}]*)*\})")
 CLAUSE = re.compile(r"\s*(?:requires|ensures|ghost)\*?(?:\s+\w+)?:?\s*\{")
 FUNCTION = re.compile(rf'(?m)^ *((?:#\[[^\]]*\]\s*)*)(pub )?(?:extern "C" )?fn (\w+)([^{{]*?)(?={CLAUSE.pattern}|\s*\{{)')
+GHOST = re.compile(r"(?m)^ *ghost (?!use )(\w+)(?: =|:) *(?=\{)")
 WORD = re.compile(r'[^\s(){};,@"«»]+')
 
 problems = []
@@ -101,16 +103,25 @@ def read_source(path):
         attributes, public, name, signature = found.groups()
         if contract := "\n".join(clauses(module.bare, found.end())):
             module.functions.append(Definition(module, name, bool(public), contract, signature, "no_mangle" in attributes))
+    for found in GHOST.finditer(module.bare):
+        module.functions.append(Definition(module, found.group(1), False, braced(module.bare, found.end() + 1)))
     return module
 
 
 def clauses(text, at):
     while found := CLAUSE.match(text, at):
-        at, depth = found.end(), 1
-        while depth:
-            depth += {"{": 1, "}": -1}.get(text[at], 0)
-            at += 1
-        yield text[found.end():at - 1]
+        inside = braced(text, found.end())
+        at = found.end() + len(inside) + 1
+        yield inside
+
+
+def braced(text, at):
+    """What stands from there on, behind an opening brace, up to the brace that closes it."""
+    end, depth = at, 1
+    while depth:
+        depth += {"{": 1, "}": -1}.get(text[end], 0)
+        end += 1
+    return text[at:end - 1]
 
 
 specs = [read_specs(path) for path in sorted(CRATES.glob("*/specs/**/*.antt"))]
@@ -133,9 +144,14 @@ def imported(module, path):
 
 
 def declared_type(crate, way, name):
-    """A type that the kit makes from one of src/, by the type's name or a variant's."""
-    found = [t for t in types_named(crate, way[-1]) if t.module.way == way[:-1] and re.search(rf"\b{name}\b", t.rattle)]
-    return found[0] if found else None
+    """A type that the kit makes from one of src/, by the type's name or a variant's: where it is declared, or where `use` passes it on."""
+    *above, last = way
+    for module in (module for module in sources if module.crate == crate and module.way == above):
+        if last in module.names:
+            return module.names[last] if re.search(rf"\b{name}\b", module.names[last].rattle) else None
+        if last in module.modules:
+            return declared_type(crate, [part for part in module.modules[last].split("::") if part != "crate"], name)
+    return None
 
 
 def types_named(crate, name):

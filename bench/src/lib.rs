@@ -1,5 +1,5 @@
-//! The judge of crates/, crate by crate and function by function, as plain Rust: the yardstick for the benchmarks. It is no
-//! independent program; second/ is.
+//! The judge of crates/, crate by crate, as plain Rust: the same searches and readers in functions of its own, the yardstick for the
+//! benchmarks. It is no independent program; second/ is.
 pub mod answers;
 pub mod chassis;
 pub mod claims;
