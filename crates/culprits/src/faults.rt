@@ -10,7 +10,7 @@ use chassis::Fault;
 use ids::{PortNo, Target};
 use patches::PatchedPicture;
 
-// Whether port p is at fault at a target: it shares it with one of n ports, lets it stray, or claims what its parent takes.
+// Whether port p is at fault at a target: it shares it with a port, lets it stray, or claims what its parent takes.
 pub fn at_fault(over: &PatchedPicture, fault: Fault, t: Target, p: PortNo) -> bool
     ensures { result ≡ at_fault fault (chassis_in over.now) t p.0 }
 {

@@ -27,7 +27,5 @@ pub fn taken_at(over: &PatchedPicture, t: Target, p: PortNo) -> bool
     ensures { result ≡ taken_at (chassis_in over.now) t p.0 }
 {
     let s = over.picture.bytes;
-    !is_root_port(s, p)
-        & claims(over, p, t)
-        & takes(conversion(over, parent_at(s, p), t))
+    !is_root_port(s, p) & claims(over, p, t) & takes(conversion(over, parent_at(s, p), t))
 }

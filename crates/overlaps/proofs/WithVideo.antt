@@ -1,5 +1,5 @@
 -- The least target at fault, by the least one beside the video range and the first address of it. Assumes nothing.
-use Prim.Native.Nat.{ℕ, zero-le, ◌^◌, ◌≤◌, ◌<◌}
+use Prim.Native.Nat.{ℕ, ◌^◌, ◌≤◌, ◌<◌}
 use mathlib.Core.Bool.{Bool, true, false, not, cond, ◌&&◌, ◌||◌, and-true, and-false, or-false}
 use mathlib.Core.Path.{◌≡◌, refl, sym, ◌∙◌, ap₂}
 use native.Mathlib.Omega.{arith}
@@ -10,7 +10,7 @@ use Rattle.ids.specs.declared.Space.TheVariants.{Ids, Addresses}
 use Rattle.ids.specs.declared.Target.{Target}
 use Rattle.ids.specs.declared.Target.TheVariants.{Id, Addr}
 use Rattle.least.specs.Least.{soonest}
-use Rattle.least.proofs.Laws.{NoneIn, first_agree}
+use Rattle.least.proofs.Laws.{first_agree}
 use Rattle.chassis.specs.Chassis.{Chassis, is_own, holds}
 use Rattle.chassis.specs.declared.Fault.{Fault}
 use Rattle.chassis.specs.declared.Fault.TheVariants.{Shared, Stray, Taken}
@@ -23,17 +23,6 @@ use Rattle.claims.proofs.OfVideo.{OfVideo}
 use Rattle.overlaps.specs.Overlaps.{video_at_fault, least_of_video}
 use Rattle.overlaps.proofs.Clashes.{clash_turned}
 use Rattle.overlaps.proofs.Apart.{apart_first}
-use Rattle.std.specs.Prelude.{Some, None}
-
--- a port that claims the video range and is at fault there was found, or there is none
-module _ (fault : Fault) (c : Chassis) where
-  pub video_at : {p : ℕ} → p < c.tree.count → video_at_fault fault c p ≡ true → Some 0xA0000 ≡ least_of_video fault c
-  unfolding least_of_video
-  video_at {p} l e = rw (any_below_at (video_at_fault fault c) c.tree.count p l e)
-
-  pub video_none : {p n : ℕ} → NoneIn (video_at_fault fault c) 0 p → n ≤ p → n ≡ c.tree.count → None ≡ least_of_video fault c
-  unfolding least_of_video
-  video_none none l e = rw ((any_below_false (video_at_fault fault c) c.tree.count).1 (λ q k. none.none q zero-le (omega arith)))
 
 -- whether a fault is at a target, by the tree and by what each port owns, claims and takes
 clash_by : Tree → (ℕ → Bool) → (ℕ → Bool) → ℕ → ℕ → Bool
