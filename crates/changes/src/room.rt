@@ -12,11 +12,7 @@ const MOST_CHANGES: usize = 4294967295;
 pub fn held_in(kept: u32, records: usize) -> usize
     ensures { result ≡ cond (ltb records kept) records kept }
 {
-    if records < kept as usize {
-        records
-    } else {
-        kept as usize
-    }
+    records.min(kept as usize)
 }
 
 // Whether the changes kept and some more outnumber the records.

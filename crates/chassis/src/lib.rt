@@ -27,7 +27,7 @@ pub enum Holders {
 }
 
 // The decoders of a port that claim a target, each by its name.
-#[derive(Clone, Copy)]
+#[derive(Clone, Copy, Default)]
 pub struct Decoders {
     pub bus: bool,
     pub rid: bool,

@@ -10,7 +10,7 @@ ghost use Rattle.chassis.specs.Chassis.{is_own, holds, hold_of};
 ghost use Rattle.registers.specs.Record.{port_at};
 ghost use Rattle.registers.specs.Rules.{with_ari, with_redirect};
 ghost use Rattle.patches.specs.Halves.{vector_over};
-ghost use Rattle.claims.specs.Decoders.{no_decoders, id_decoders, address_decoders};
+ghost use Rattle.claims.specs.Decoders.{id_decoders, address_decoders};
 ghost use Rattle.claims.specs.Over.{chassis_over, chassis_in};
 ghost use Rattle.claims.specs.Beside.{video_first};
 
@@ -23,34 +23,19 @@ pub use decoders::{
     memory_space_enabled, prefetchable_claims, upper_of, vector_claims, vga_enabled, video_claims,
 };
 use ids::{PortNo, Rid, Target};
-use patches::PatchedPicture;
+use patches::{PatchedPicture, vector};
 use registers::{Mechanism, enables_of, own_id_at, port_at};
-
-// No decoder claims the target.
-fn no_decoders() -> Decoders
-    ensures { result ≡ no_decoders }
-{
-    Decoders {
-        bus: false,
-        rid: false,
-        mem: false,
-        pref: false,
-        low: false,
-        high: false,
-        vga: false,
-    }
-}
 
 // The decoders of port p that claim an ID: its bus pair, its RID vector.
 #[tactic(auto, unfolding(crate::specs::Decoders::id_decoders))]
-fn id_decoders(over: &PatchedPicture, p: PortNo, rid: Rid) -> Decoders
-    ensures { result ≡ id_decoders (port_at over.now.picture.bytes.now p.0) (vector_over over.now.picture.bytes.now over.now.patch.now p.0) rid.0 }
+fn id_decoders<'a>(s: &'a [u8], patch: &'a [u8], p: PortNo, rid: Rid) -> Decoders
+    ensures { result ≡ id_decoders (port_at s.now p.0) (vector_over s.now patch.now p.0) rid.0 }
 {
-    let port = port_at(over.picture.bytes, p);
+    let port = port_at(s, p);
     let b = port.bridge;
     let f = port.fpb;
-    let v = over.vector(p, Mechanism::Rid);
-    let mut by = no_decoders();
+    let v = vector(s, patch, p, Mechanism::Rid);
+    let mut by = Decoders::default();
     by.bus = bus_claims(b, rid);
     by.rid = vector_claims(f, Mechanism::Rid, v, rid.0 as u64);
     by
@@ -58,30 +43,30 @@ fn id_decoders(over: &PatchedPicture, p: PortNo, rid: Rid) -> Decoders
 
 // The decoders of port p that claim an address; without Memory Space Enable none does.
 #[tactic(auto, unfolding(crate::specs::Decoders::address_decoders))]
-fn address_decoders(over: &PatchedPicture, p: PortNo, a: u64) -> Decoders
-    ensures { result ≡ address_decoders (port_at over.now.picture.bytes.now p.0) (vector_over over.now.picture.bytes.now over.now.patch.now p.0) a }
+fn address_decoders<'a>(s: &'a [u8], patch: &'a [u8], p: PortNo, a: u64) -> Decoders
+    ensures { result ≡ address_decoders (port_at s.now p.0) (vector_over s.now patch.now p.0) a }
 {
-    let port = port_at(over.picture.bytes, p);
+    let port = port_at(s, p);
     let b = port.bridge;
     let f = port.fpb;
-    let mut by = no_decoders();
+    let mut by = Decoders::default();
     if memory_space_enabled(b) {
         by.mem = memory_claims(b, a);
         by.pref = prefetchable_claims(b, a);
-        by.low = low_claims(f, over.vector(p, Mechanism::Low), a);
-        by.high = high_claims(f, over.vector(p, Mechanism::High), a);
+        by.low = low_claims(f, vector(s, patch, p, Mechanism::Low), a);
+        by.high = high_claims(f, vector(s, patch, p, Mechanism::High), a);
         by.vga = video_claims(b, a);
     }
     by
 }
 
 // The decoders of port p that claim the target.
-pub fn decoders_of(over: &PatchedPicture, p: PortNo, t: Target) -> Decoders
-    ensures { result ≡ (chassis_in over.now).decoders p.0 t }
+pub fn decoders_of<'a>(s: &'a [u8], patch: &'a [u8], p: PortNo, t: Target) -> Decoders
+    ensures { result ≡ (chassis_over s.now patch.now).decoders p.0 t }
 {
     match t {
-        Target::Id(rid) => id_decoders(over, p, rid),
-        Target::Addr(a) => address_decoders(over, p, a),
+        Target::Id(rid) => id_decoders(s, patch, p, rid),
+        Target::Addr(a) => address_decoders(s, patch, p, a),
     }
 }
 
@@ -89,7 +74,7 @@ pub fn decoders_of(over: &PatchedPicture, p: PortNo, t: Target) -> Decoders
 pub fn claims(over: &PatchedPicture, p: PortNo, t: Target) -> bool
     ensures { result ≡ (chassis_in over.now).claims p.0 t }
 {
-    decoders_of(over, p, t).at_least_one()
+    decoders_of(over.picture.bytes, over.patch, p, t).at_least_one()
 }
 
 // Whether the target is the ID of port p itself, whatever the patch.
@@ -111,13 +96,13 @@ pub fn holds(over: &PatchedPicture, p: PortNo, t: Target) -> bool
 }
 
 // What port p has to do with the target: whether it is its own, and the decoders that claim it.
-pub fn hold_of(over: &PatchedPicture, p: PortNo, t: Target) -> Hold
-    ensures { result ≡ hold_of (chassis_in over.now) t p.0 }
+pub fn hold_of<'a>(s: &'a [u8], patch: &'a [u8], p: PortNo, t: Target) -> Hold
+    ensures { result ≡ hold_of (chassis_over s.now patch.now) t p.0 }
 {
     Hold {
         port: p,
-        own: is_own(over.picture.bytes, p, t),
-        decoders: decoders_of(over, p, t),
+        own: is_own(s, p, t),
+        decoders: decoders_of(s, patch, p, t),
     }
 }
 

@@ -13,12 +13,7 @@ use registers::{is_root_port, parent_at};
 fn takes(made: Conversion) -> bool
     ensures { result ≡ takes made }
 {
-    match made {
-        Conversion::NotClaimed => false,
-        Conversion::Type0 => true,
-        Conversion::Type1 => false,
-        Conversion::Unsupported => true,
-    }
+    matches!(made, Conversion::Type0 | Conversion::Unsupported)
 }
 
 // Whether port p is no root port and claims an ID that its parent takes; no port takes an address.

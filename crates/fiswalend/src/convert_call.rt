@@ -11,12 +11,7 @@ use judge::convert;
 fn conversion_code(decided: Conversion) -> u32
     ensures { result ≡ conversion_code decided }
 {
-    match decided {
-        Conversion::NotClaimed => 0,
-        Conversion::Type0 => 1,
-        Conversion::Type1 => 2,
-        Conversion::Unsupported => 3,
-    }
+    decided as u32
 }
 
 // The number, and where it is 0 what the port decides.

@@ -5,9 +5,7 @@ ghost use Rattle.judge.specs.Claiming.{claim_asked_wrongly, claim_answer};
 use crate::asking::{id_too_large, target_asked};
 use chassis::Hold;
 use ids::PortNo;
-use patches::PatchedPicture;
 use picture::Refusal;
-use trees::Picture;
 
 // Number 16.
 #[tactic(auto, unfolding(crate::specs::Claiming::claim_asked_wrongly))]
@@ -18,7 +16,7 @@ fn claim_asked_wrongly(count: u32, port: u32, kind: u32, target: u64) -> bool
 }
 
 // Numbers 1 to 10, then 16, else the decoders of the port that claim the target, and whether it is the port's own.
-#[tactic(auto, using(crate::proofs::Asked::claim_port, crate::proofs::Asked::claim_target, picture::proofs::WhatReads::count_few, picture::proofs::WhatReads::count_read), unfolding(crate::specs::Claiming::claim_of))]
+#[tactic(auto, using(crate::proofs::Asked::claim_port, crate::proofs::Asked::claim_target, picture::proofs::WhatReads::count_few), unfolding(crate::specs::Claiming::claim_of))]
 pub fn claim(s: &[u8], port: u32, kind: u32, target: u64) -> Result<Hold, Refusal>
     ensures { result ≡ claim_answer s.now port kind target }
 {
@@ -26,13 +24,6 @@ pub fn claim(s: &[u8], port: u32, kind: u32, target: u64) -> Result<Hold, Refusa
     if claim_asked_wrongly(h.count as u32, port, kind, target) {
         return Err(Refusal::AskedWrongly);
     }
-    let over = PatchedPicture {
-        picture: Picture {
-            bytes: s,
-            count: h.count as u8,
-        },
-        patch: &[],
-    };
     let target = target_asked(kind, target);
-    Ok(claims::hold_of(&over, PortNo(port as u8), target))
+    Ok(claims::hold_of(s, &[], PortNo(port as u8), target))
 }

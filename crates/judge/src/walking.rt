@@ -66,7 +66,7 @@ pub fn walk_over(
         return Err(Refusal::AskedWrongly);
     }
     let packet = packet_of(kind, target);
-    let from = routes::starts_at(over, packet, PortNo(start as u8));
+    let from = routes::starts_at(over.picture.bytes, over.patch, packet, PortNo(start as u8));
     Ok(routes::walk_from(over, packet, from))
 }
 

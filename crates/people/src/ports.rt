@@ -2,7 +2,7 @@
 use crate::neighbours::parent_of;
 use chassis::Kind;
 use ids::PortNo;
-use registers::{kind_at, own_id_at, parent_at, port_at};
+use registers::{known_kind, own_id_at, parent_at, port_at};
 use std::iter::successors;
 use std::{fmt, io};
 
@@ -66,7 +66,7 @@ fn say_parent(rt: &impl Print, s: &[u8], p: PortNo) -> io::Result<()> {
 
 // What a switch port that breaks a rule of the tree finds above it, where its parent is a lower port.
 fn say_found_above(rt: &impl Print, s: &[u8], p: PortNo) -> io::Result<()> {
-    let kind = kind_at(s, p);
+    let kind = known_kind(s, p);
     let parent = parent_at(s, p);
     if p <= parent || !matches!(kind, Ok(Kind::Upstream | Kind::Downstream)) {
         return Ok(());

@@ -13,8 +13,8 @@ pub use fields::{enabled, granularity_code, settings, size_code, supported, vect
 use ids::{PortNo, Rid};
 use lent::{u8_at, u16_at, u32_at};
 pub use records::{
-    HEADER_BYTES, edition_of, enables_of, is_root_port, kind_at, own_id_at, parent_at, record_at,
-    sizes_of, vectors_start,
+    HEADER_BYTES, edition_of, enables_of, is_root_port, kind_at, known_kind, own_id_at, parent_at,
+    record_at, sizes_of, vectors_start,
 };
 pub use rules::{settings_wrong, start_wrong, with_ari, with_redirect};
 

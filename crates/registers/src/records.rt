@@ -45,19 +45,26 @@ fn record_in(s: &[u8], p: PortNo) -> usize
     record_at(edition_of(s), p.0 as usize)
 }
 
-// The kind of port p.
+// 0 root port, 1 switch upstream, 2 switch downstream.
 #[tactic(auto, unfolding(crate::specs::Record::port_at))]
-pub fn kind_at(s: &[u8], p: PortNo) -> Result<Kind, UnknownKind>
+pub fn kind_at(s: &[u8], p: PortNo) -> u8
+    ensures { result ≡ (port_at s.now p.0).kind }
+{
+    lent::u8_at(s, record_in(s, p))
+}
+
+// The kind that this number stands for.
+pub fn known_kind(s: &[u8], p: PortNo) -> Result<Kind, UnknownKind>
     ensures { result ≡ kind_of (port_at s.now p.0).kind }
 {
-    Kind::try_from(lent::u8_at(s, record_in(s, p)))
+    Kind::try_from(kind_at(s, p))
 }
 
 // Whether port p is a root port.
 pub fn is_root_port(s: &[u8], p: PortNo) -> bool
     ensures { result ≡ eqb (port_at s.now p.0).kind root_port }
 {
-    kind_at(s, p) == Ok(Kind::Root)
+    known_kind(s, p) == Ok(Kind::Root)
 }
 
 // The port above, 255 for a root port.
@@ -75,11 +82,7 @@ pub fn sizes_of(s: &[u8], p: PortNo) -> Fpb
 {
     Fpb {
         capabilities: lent::u32_at(s, record_in(s, p) + 28),
-        rid_control_1: 0,
-        rid_control_2: 0,
-        mem_low_control: 0,
-        mem_high_control_1: 0,
-        mem_high_control_2: 0,
+        ..Fpb::default()
     }
 }
 
@@ -92,15 +95,8 @@ pub fn enables_of(s: &[u8], p: PortNo) -> Bridge
     let r = record_in(s, p);
     Bridge {
         command: lent::u16_at(s, r + 4),
-        secondary: 0,
-        subordinate: 0,
-        memory_base: 0,
-        memory_limit: 0,
-        prefetchable_base: 0,
-        prefetchable_limit: 0,
-        prefetchable_base_upper: 0,
-        prefetchable_limit_upper: 0,
         bridge_control: lent::u16_at(s, r + 26),
+        ..Bridge::default()
     }
 }
 

@@ -10,7 +10,7 @@ ghost use Rattle.trees.specs.Trees.{tree_of};
 use chassis::Kind;
 use ids::PortNo;
 pub use pictures::Picture;
-use registers::{kind_at, parent_at};
+use registers::{known_kind, parent_at};
 
 // Whether one of the ports below number n is a child of q.
 pub fn has_child_below(s: &[u8], n: u8, q: PortNo) -> bool
@@ -25,7 +25,7 @@ fn upstream_broken(s: &[u8], p: PortNo) -> bool
     ensures { result ≡ upstream_broken (tree_of s.now) p.0 }
 {
     let parent = parent_at(s, p);
-    (kind_at(s, parent) == Ok(Kind::Upstream)) | has_child_below(s, p.0, parent)
+    (known_kind(s, parent) == Ok(Kind::Upstream)) | has_child_below(s, p.0, parent)
 }
 
 // A downstream port that is not below an upstream port.
@@ -33,7 +33,7 @@ fn upstream_broken(s: &[u8], p: PortNo) -> bool
 fn downstream_broken(s: &[u8], p: PortNo) -> bool
     ensures { result ≡ downstream_broken (tree_of s.now) p.0 }
 {
-    kind_at(s, parent_at(s, p)) != Ok(Kind::Upstream)
+    known_kind(s, parent_at(s, p)) != Ok(Kind::Upstream)
 }
 
 // Number 6.
@@ -42,7 +42,7 @@ pub fn tree_broken(s: &[u8], p: PortNo) -> bool
     ensures { result ≡ tree_broken (tree_of s.now) p.0 }
 {
     let parent = parent_at(s, p);
-    match kind_at(s, p) {
+    match known_kind(s, p) {
         Ok(Kind::Root) => parent != PortNo::ROOT,
         Ok(Kind::Upstream) => parent >= p || upstream_broken(s, p),
         Ok(Kind::Downstream) => parent >= p || downstream_broken(s, p),

@@ -5,7 +5,7 @@ ghost use Rattle.trees.specs.Trees.{count_of};
 use crate::has_child_below;
 use chassis::Kind;
 use ids::PortNo;
-use registers::kind_at;
+use registers::known_kind;
 
 // The bytes of a picture whose header says so many ports.
 #[derive(Clone, Copy)]
@@ -25,7 +25,7 @@ impl<'a> Picture<'a> {
         ensures { result ≡ is_device_port (tree_of self.now.bytes.now) p.0 }
     {
         (p.0 < self.count)
-            & (kind_at(self.bytes, p) != Ok(Kind::Upstream))
+            & (known_kind(self.bytes, p) != Ok(Kind::Upstream))
             & !has_child_below(self.bytes, self.count, p)
     }
 }

@@ -33,17 +33,17 @@ fn verdict_at(over: &PatchedPicture, fault: Fault, t: Target) -> Verdict
     match fault {
         Fault::Shared => {
             let pair = first_pair(over, t);
-            let first = hold_of(over, pair.first, t);
-            let second = hold_of(over, pair.second, t);
+            let first = hold_of(over.picture.bytes, over.patch, pair.first, t);
+            let second = hold_of(over.picture.bytes, over.patch, pair.second, t);
             Verdict::Shared(t, first, second)
         }
         Fault::Stray => {
             let port = lowest_port(&over.picture, |p| strays_at(over, t, p));
-            Verdict::Stray(t, hold_of(over, port, t))
+            Verdict::Stray(t, hold_of(over.picture.bytes, over.patch, port, t))
         }
         Fault::Taken => {
             let port = lowest_port(&over.picture, |p| taken_at(over, t, p));
-            Verdict::Taken(t, hold_of(over, port, t))
+            Verdict::Taken(t, hold_of(over.picture.bytes, over.patch, port, t))
         }
     }
 }
