@@ -12,7 +12,6 @@ use lib.ListN.{length, drop, length-append, length-replicate}
 use Rattle.ids.specs.declared.PortNo.{PortNo}
 use Rattle.ids.specs.declared.Target.{Target}
 use Rattle.ids.specs.declared.Target.TheVariants.{Id, Addr}
-use Rattle.chassis.specs.declared.End.{End}
 use Rattle.chassis.specs.declared.Verdict.{Verdict}
 use Rattle.chassis.specs.declared.Verdict.TheVariants.{Clear, Shared, Stray, Lost, Taken}
 use Rattle.chassis.specs.declared.Fault.TheVariants.{Shared as Faulty-as-Shared, Stray as Faulty-as-Stray}

@@ -1,10 +1,9 @@
 -- The demands of a picture and a patch. Assumes nothing.
 use Prim.Native.Nat.{ℕ, ◌<◌}
 use mathlib.Core.List.{List}
-use mathlib.Core.Path.{◌≡◌, refl, ap, ◌∙◌}
+use mathlib.Core.Path.{◌≡◌, refl, ◌∙◌}
 use borrow.Author.Tests.{lt-ltb}
 use Rattle.least.proofs.Laws.{impossible}
-use Rattle.chassis.specs.declared.End.{End}
 use Rattle.chassis.specs.declared.Verdict.{Verdict}
 use Rattle.chassis.specs.Check.{verdict_of}
 use Rattle.chassis.specs.OneEnd.{OneEnd}
