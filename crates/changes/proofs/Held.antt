@@ -19,7 +19,7 @@ use Rattle.changes.specs.declared.Change.{Change}
 use Rattle.changes.specs.Change.{part_bytes, byte_named}
 use Rattle.changes.specs.Versions.{byte_set, made, no_change, change_at, made_up_to, version}
 use Rattle.changes.specs.Adding.{byte_at, is_another, old_wrong, names_none, run_number}
-use Rattle.changes.specs.Looking.{same_byte, held_after, held_up_to, lower}
+use Rattle.changes.specs.Looking.{same_byte, held_after, held_up_to}
 use Rattle.changes.proofs.Named.{named, within, same_place}
 use Rattle.changes.proofs.Reading.{Read-as}
 use Rattle.std.specs.Prelude.{Option, Some, None}
@@ -122,6 +122,10 @@ wrong_is first room run kept i sound = go (byte_named first (change_at run i)) r
         (ap (λ (b : ℕ). held_up_to run c b i) (held_is first sound c x e room first refl held ∙ ap (λ (bytes : List ℕ). get_or bytes x 0) (version_held first room kept))
         ∙ held_is first sound c x e run (version first room kept) (up_to_length first room first kept) i)
     go None e = refl
+
+-- 37 or 38 so far, and with one change more, which names no byte or says a wrong old one
+abbrev pub lower : ℕ → Bool → Bool → ℕ
+lower number none wrong = cond (none || eqb number 37) 37 (cond (wrong || eqb number 38) 38 0)
 
 -- 37 and 38 over one change more
 pub number_more : (first bytes : List ℕ) (run : List Change) (i : ℕ) → lower (run_number first bytes run i) (names_none first run i) (old_wrong first bytes run i) ≡ run_number first bytes run (i + 1)

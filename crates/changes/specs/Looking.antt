@@ -1,5 +1,5 @@
 -- How the byte before a change is found: in the first picture, and then in each change so far that names the same byte.
-use Rattle.std.specs.Prelude.{ℕ, zero, suc, Bool, cond, ◌&&◌, List, eqb, ◌||◌}
+use Rattle.std.specs.Prelude.{ℕ, zero, suc, Bool, cond, ◌&&◌, List, eqb}
 use Rattle.changes.specs.declared.Change.{Change}
 use Rattle.changes.specs.Versions.{change_at}
 
@@ -14,7 +14,3 @@ held_after done c held = cond (same_byte done c) done.new_byte held
 unfoldable pub held_up_to : List Change → Change → ℕ → ℕ → ℕ
 held_up_to changes c held zero = held
 held_up_to changes c held (suc k) = held_after (change_at changes k) c (held_up_to changes c held k)
-
--- 37 or 38 so far, and with one change more, which names no byte or says a wrong old one
-abbrev pub lower : ℕ → Bool → Bool → ℕ
-lower number none wrong = cond (none || eqb number 37) 37 (cond (wrong || eqb number 38) 38 0)

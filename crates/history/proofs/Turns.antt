@@ -8,9 +8,9 @@ use Rattle.changes.specs.declared.Change.{Change}
 use Rattle.changes.specs.Change.{byte_named}
 use Rattle.changes.specs.Versions.{change_at, version}
 use Rattle.changes.specs.Adding.{is_none, byte_at, is_another, old_wrong, names_none, run_number, room_full, else_number, adding_number}
-use Rattle.changes.specs.Looking.{held_after, held_up_to, lower}
+use Rattle.changes.specs.Looking.{held_after, held_up_to}
 use Rattle.changes.proofs.Reading.{reads_zero, reads_far}
-use Rattle.changes.proofs.Held.{wrong_is, number_more}
+use Rattle.changes.proofs.Held.{wrong_is, number_more, lower}
 
 pub looked_none : (changes : List Change) (c : Change) (held : ℕ) → held_up_to changes c held 0 ≡ held
 unfolding held_up_to
