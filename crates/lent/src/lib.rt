@@ -23,7 +23,7 @@ fn bytes_at<const N: usize>(s: &[u8], i: usize) -> Option<[u8; N]>
 // The two bytes from i on.
 #[tactic(auto, unfolding(crate::specs::Lent::u16_at))]
 pub fn u16_at(s: &[u8], i: usize) -> u16
-    requires { i < 2 ^ 63 }
+    requires { i + 2 < 2 ^ 64 }
     ensures { result ≡ u16_at s.now i }
 {
     match bytes_at(s, i) {
@@ -35,7 +35,7 @@ pub fn u16_at(s: &[u8], i: usize) -> u16
 // The four bytes from i on.
 #[tactic(auto, unfolding(crate::specs::Lent::u16_at, crate::specs::Lent::u32_at))]
 pub fn u32_at(s: &[u8], i: usize) -> u32
-    requires { i < 2 ^ 62 }
+    requires { i + 4 < 2 ^ 64 }
     ensures { result ≡ u32_at s.now i }
 {
     match bytes_at(s, i) {
@@ -47,7 +47,7 @@ pub fn u32_at(s: &[u8], i: usize) -> u32
 // The eight bytes from i on.
 #[tactic(auto, unfolding(crate::specs::Lent::u16_at, crate::specs::Lent::u32_at))]
 pub fn u64_at(s: &[u8], i: usize) -> u64
-    requires { i < 2 ^ 61 }
+    requires { i + 8 < 2 ^ 64 }
     ensures { result ≡ u32_at s.now i + 4294967296 * u32_at s.now (i + 4) }
 {
     match bytes_at(s, i) {
