@@ -6,7 +6,7 @@ mod units;
 
 ghost use Rattle.std.specs.Prelude.{◌≡◌, length};
 ghost use Rattle.strips.specs.Strips.{Marks};
-ghost use Rattle.painted.specs.Painted.{claimed_in};
+ghost use Rattle.painted.specs.Painted.{FitsPart, claimed_in};
 
 use ids::PortNo;
 use registers::port_at;
@@ -17,6 +17,7 @@ pub use units::{Part, Window, is_whole};
 #[tactic(auto, using(crate::proofs::Laws::port_off, crate::proofs::Laws::port_on))]
 pub fn paint<'a>(s: &'a [u8], patch: &'a [u8], p: PortNo, part: Part, strip: &mut [u64])
     requires strip_len { length strip.old ≡ 128 }
+    requires fits_part { FitsPart part }
     ensures { Marks strip.old strip.new (claimed_in s.now patch.now p.0 part) }
 {
     let base = part.base_unit();

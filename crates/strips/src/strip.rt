@@ -44,7 +44,7 @@ fn mark_behind(strip: &mut [u64; WORDS], d: u64, x: u64)
 
 // Marks the 64 units from `at` on that are digits of x, as far as they lie in the strip from `base` on.
 #[tactic(auto, using(crate::proofs::OfMarks::from_before, crate::proofs::OfMarks::from_behind, crate::proofs::Laws::marks_as))]
-fn mark_from(strip: &mut [u64; WORDS], base: u64, at: u64, x: u64)
+pub fn mark_from(strip: &mut [u64; WORDS], base: u64, at: u64, x: u64)
     ensures { Marks strip.old strip.new (digits_from base at x) }
 {
     if at < base {
