@@ -1,5 +1,5 @@
 -- What a port claims beside the video range, in units: of 8 IDs, of a MiB, or of granules of MEM High. What is off is an empty range.
-use Rattle.std.specs.Prelude.{ℕ, ◌+◌, ◌-◌, ◌*◌, ◌/◌, ◌%◌, ◌^◌, Bool, false, not, cond, ◌&&◌, ◌||◌, List, eqb, leb, Option, Some, None}
+use Rattle.std.specs.Prelude.{ℕ, ◌+◌, ◌-◌, ◌*◌, ◌/◌, ◌%◌, ◌^◌, ◌≤◌, ◌<◌, Bool, false, not, cond, ◌&&◌, ◌||◌, List, eqb, leb, Option, Some, None}
 use Rattle.vectors.specs.declared.Settings.{Settings}
 use Rattle.vectors.specs.Vectors.{hits}
 use Rattle.registers.specs.declared.Bridge.{Bridge}
@@ -33,6 +33,15 @@ abbrev pub mechanism_of : Part → Mechanism
 mechanism_of Ids = OfRid
 mechanism_of Low = OfLow
 mechanism_of (High w) = OfHigh
+
+-- a window lies above 4 GiB, and its units have numbers that can be added to
+abbrev pub FitsWindow : Window → Type 0
+FitsWindow w = (28 ≤ w.scale) × (w.scale < 64) × (w.base < 2 ^ 62)
+
+abbrev pub FitsPart : Part → Type 0
+FitsPart Ids = Unit {0}
+FitsPart Low = Unit {0}
+FitsPart (High w) = FitsWindow w
 
 -- each entry is whole units of 2^k targets
 unfoldable pub whole_in : Settings → ℕ → Bool

@@ -1,33 +1,19 @@
 // What a port claims in one part of a space beside the video range, in units: of 8 IDs, of a MiB, or of a granule of MEM High.
 ghost use Rattle.std.specs.Prelude.{◌≡◌, ℕ, ◌-◌, ◌^◌, ◌<◌};
-ghost use Rattle.painted.specs.Painted.{in_units, whole_in, memory_units, prefetchable_units, id_units, address_units, high_units};
+ghost use Rattle.painted.specs.Painted.{in_units, whole_in, memory_units, prefetchable_units, id_units, address_units, high_units, FitsWindow};
 
 use claims::{base_of, memory_space_enabled, upper_of};
 use holdings::range_if;
 use registers::{Bridge, Mechanism, Port, enabled, settings};
 use spans::ranges::Range;
-use std::marker::Model;
 use strips::SmallSettings;
 use vectors::Settings;
 
-// A part of the addresses from 4 GiB up: units of 2^scale addresses, from unit `base` on, whose numbers can be added to.
+// A part of the addresses from 4 GiB up: units of 2^scale addresses, from unit `base` on.
 #[derive(Clone, Copy)]
 pub struct Window {
     pub scale: u32,
     pub base: u64,
-}
-
-impl Model for Window {
-    ghost use Rattle.std.specs.Prelude.{◌≤◌, ◌<◌, ◌^◌};
-    ghost use Rattle.painted.specs.Frame.{Frame};
-
-    ghost Value = { Frame };
-
-    ghost view = { λ w. record { scale = w.scale; base = w.base } };
-
-    ghost inverse = { λ w. record { scale = w.scale; base = w.base } };
-
-    ghost invariant = { λ w. (28 ≤ w.scale) × (w.scale < 64) × (w.base < 2 ^ 62) };
 }
 
 // A part of a space that a strip covers: all IDs, the addresses below 4 GiB, or a window above.
@@ -130,8 +116,9 @@ fn address_units(p: Port) -> Claimed
 
 // A window: the High vector, where its entries are whole units.
 #[tactic(auto, using(crate::proofs::Laws::high_small), unfolding(crate::specs::Painted::high_units))]
-fn high_units(p: Port, w: &Window) -> Claimed
-    ensures { result ≡ high_units p w.now }
+fn high_units(p: Port, w: Window) -> Claimed
+    requires { FitsWindow w }
+    ensures { result ≡ high_units p w }
 {
     let b = p.bridge;
     let f = p.fpb;
@@ -149,16 +136,17 @@ fn high_units(p: Port, w: &Window) -> Claimed
 }
 
 impl Part {
-    ghost use Rattle.painted.specs.Painted.{units_of, mechanism_of, base_unit};
+    ghost use Rattle.painted.specs.Painted.{units_of, mechanism_of, base_unit, FitsPart};
 
     // What a port claims in it.
     pub(crate) fn units_of(&self, p: Port) -> Claimed
+        requires { FitsPart self.now }
         ensures { result ≡ units_of p self.now }
     {
         match self {
             Part::Ids => id_units(p),
             Part::Low => address_units(p),
-            Part::High(w) => high_units(p, w),
+            Part::High(w) => high_units(p, *w),
         }
     }
 
@@ -175,6 +163,7 @@ impl Part {
 
     // The unit that it begins with.
     pub(crate) fn base_unit(&self) -> u64
+        requires { FitsPart self.now }
         ensures value { result ≡ base_unit self.now }
         ensures upper_bound { result < 2 ^ 62 }
     {

@@ -9,7 +9,7 @@ mod strip;
 
 pub use entries::SmallSettings;
 pub use finds::{first_of_both, is_marked, join};
-pub use strip::Strip;
+pub use strip::{mark_grid, mark_range};
 
 // How many words a strip has.
 pub const WORDS: usize = 128;

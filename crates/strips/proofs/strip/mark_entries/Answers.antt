@@ -2,7 +2,7 @@ use Rattle.std.proofs.Common.{sym, ◌∙◌, arith}
 use Rattle.least.proofs.Laws.{is_at}
 use Rattle.strips.proofs.Laws.{marks_also}
 use Rattle.strips.proofs.OfGrids.{grid_more}
-use Rattle.strips.proofs.strip.Strip.mark_entries.Goals as goal
+use Rattle.strips.proofs.strip.mark_entries.Goals as goal
 
 pub units_of-requires : goal.units_of-requires
 units_of-requires c =
