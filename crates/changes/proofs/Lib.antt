@@ -1,6 +1,7 @@
 pub mod Rooms
 pub mod Named
 pub mod Reading
+pub mod Owners
 pub mod Held
 pub mod BackRead
 pub mod Stood

@@ -1,5 +1,5 @@
 // A change made in lent bytes, and what a byte is before and after one.
-ghost use Rattle.std.specs.Prelude.{◌≡◌};
+ghost use Rattle.std.specs.Prelude.{◌≡◌, ◌+◌, ◌*◌};
 ghost use Rattle.changes.specs.Change.{byte_named};
 ghost use Rattle.changes.specs.Versions.{made};
 ghost use Rattle.changes.specs.Adding.{byte_at};
@@ -19,12 +19,19 @@ pub fn first_byte(first: &Picture, c: Change) -> u8
     }
 }
 
+// Port and part of a change as one number, which the machine compares at once.
+fn owner(c: Change) -> u64
+    ensures { result ≡ c.port + 4294967296 * c.part }
+{
+    c.port as u64 + 4294967296 * (c.part as u64)
+}
+
 // What the byte that c names is after a change was made, if it was `held` before.
-#[tactic(auto, unfolding(crate::specs::Looking::held_after))]
+#[tactic(auto, using(crate::proofs::Owners::same_owner), unfolding(crate::specs::Looking::held_after))]
 pub fn held_after(done: Change, c: Change, held: u8) -> u8
     ensures { result ≡ held_after done c held }
 {
-    if (done.port == c.port) & (done.part == c.part) & (done.at == c.at) {
+    if (owner(done) == owner(c)) & (done.at == c.at) {
         done.new_byte
     } else {
         held

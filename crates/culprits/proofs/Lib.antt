@@ -1,2 +1,3 @@
 pub mod LowestPort
+pub mod FirstPair
 pub mod AsAsked

@@ -1,6 +1,7 @@
 // Numbers 11 and 12: the first pair of ports that share a target.
 ghost use Rattle.std.specs.Prelude.{◌≡◌};
-ghost use Rattle.chassis.specs.Check.{clash, clashes_with};
+ghost use Rattle.ids.specs.Ids.{no_port};
+ghost use Rattle.chassis.specs.Check.{clash, clashes_with, lowest_port as Check·lowest_port};
 ghost use Rattle.claims.specs.Over.{chassis_in};
 ghost use Rattle.culprits.specs.Culprits.{pair_at};
 
@@ -39,12 +40,33 @@ pub fn clashes_with(over: &PatchedPicture, t: Target, p: PortNo) -> bool
     chassis::any(over.picture.count, |q| clashes(over, t, p, q))
 }
 
-// The first pair at a target that is shared, by first port and then second, a port with itself tried too; 255 twice at any other.
-#[tactic(auto, unfolding(crate::specs::Culprits::pair_at))]
+// What stands for a pair at a target that no two ports share.
+fn no_pair(over: &PatchedPicture, t: Target) -> Pair
+    ensures { result ≡ record { first = no_port; second = Check·lowest_port (chassis_in over.now) (clash (chassis_in over.now) t 255) } }
+{
+    Pair {
+        first: PortNo::NONE,
+        second: lowest_port(&over.picture, |q| clashes(over, t, PortNo::NONE, q)),
+    }
+}
+
+// The first pair at a target, by first port and then second, a port with itself tried too.
+#[tactic(auto, using(least::proofs::Laws::none_empty, least::proofs::Laws::none_more, crate::proofs::FirstPair::tried, crate::proofs::FirstPair::pair_here, crate::proofs::FirstPair::no_pair_is))]
 pub fn first_pair(over: &PatchedPicture, t: Target) -> Pair
     ensures { result ≡ pair_at (chassis_in over.now) t }
 {
-    let first = lowest_port(&over.picture, |p| clashes_with(over, t, p));
-    let second = lowest_port(&over.picture, |q| clashes(over, t, first, q));
-    Pair { first, second }
+    let n = over.picture.count;
+    'ports: {
+        for p in 0..n {
+            for q in 0..n {
+                if clashes(over, t, PortNo(p), PortNo(q)) {
+                    break 'ports Pair {
+                        first: PortNo(p),
+                        second: PortNo(q),
+                    };
+                }
+            }
+        }
+        no_pair(over, t)
+    }
 }

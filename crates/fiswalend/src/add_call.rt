@@ -5,7 +5,6 @@ use changes::Change;
 use history::accept;
 
 // Adds a run behind the changes kept, whole or not at all, and says how many are kept then.
-
 pub fn fpb_history_add(
     first: &[u8],
     room: &mut [Change],
