@@ -8,7 +8,7 @@ mod readings;
 mod refusals;
 mod room;
 
-pub use made::{first_byte, held_after, make_change};
+pub use made::{first_byte, held_after, make_change, same_byte};
 pub use places::byte_named;
 pub use readings::{first_picture, version_there, wind_back};
 pub use refusals::HistoryRefusal;

@@ -3,7 +3,7 @@ ghost use Rattle.std.specs.Prelude.{◌≡◌, ◌+◌, ◌*◌};
 ghost use Rattle.changes.specs.Change.{byte_named};
 ghost use Rattle.changes.specs.Versions.{made};
 ghost use Rattle.changes.specs.Adding.{byte_at};
-ghost use Rattle.changes.specs.Looking.{held_after};
+ghost use Rattle.changes.specs.Looking.{same_byte, held_after};
 
 use crate::Change;
 use crate::places::byte_named;
@@ -26,12 +26,20 @@ fn owner(c: Change) -> u64
     c.port as u64 + 4294967296 * (c.part as u64)
 }
 
+// Whether two changes name the same byte.
+#[tactic(auto, using(crate::proofs::Owners::same_owner))]
+pub fn same_byte(done: Change, c: Change) -> bool
+    ensures { result ≡ same_byte done c }
+{
+    (owner(done) == owner(c)) & (done.at == c.at)
+}
+
 // What the byte that c names is after a change was made, if it was `held` before.
-#[tactic(auto, using(crate::proofs::Owners::same_owner), unfolding(crate::specs::Looking::held_after))]
+#[tactic(auto, unfolding(crate::specs::Looking::held_after))]
 pub fn held_after(done: Change, c: Change, held: u8) -> u8
     ensures { result ≡ held_after done c held }
 {
-    if (owner(done) == owner(c)) & (done.at == c.at) {
+    if same_byte(done, c) {
         done.new_byte
     } else {
         held

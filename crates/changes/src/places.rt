@@ -42,6 +42,7 @@ fn part_start(first: &[u8], p: PortNo, part: u32) -> u64
 }
 
 // The byte that a change names, of the first picture.
+#[inline(always)]
 #[tactic(auto, unfolding(crate::specs::Change::byte_named))]
 pub fn byte_named(first: &Picture, c: Change) -> Option<u64>
     ensures { result ≡ byte_named first.now.bytes.now c }

@@ -8,7 +8,7 @@ use Rattle.changes.specs.declared.Change.{Change}
 use Rattle.changes.specs.Change.{byte_named}
 use Rattle.changes.specs.Versions.{change_at, version}
 use Rattle.changes.specs.Adding.{is_none, byte_at, is_another, old_wrong, names_none, run_number, room_full, else_number, adding_number}
-use Rattle.changes.specs.Looking.{held_after, held_up_to}
+use Rattle.changes.specs.Looking.{same_byte, held_after, held_up_to}
 use Rattle.changes.proofs.Reading.{reads_zero, reads_far}
 use Rattle.changes.proofs.Held.{wrong_is, number_more, lower}
 
@@ -19,6 +19,20 @@ looked_none changes c held = refl
 pub looked_more : (changes : List Change) (c : Change) (held i : ℕ) → held_up_to changes c held (i + 1) ≡ held_after (change_at changes i) c (held_up_to changes c held i)
 unfolding held_up_to
 looked_more changes c held i = rw (add-one i) refl
+
+-- a change that names another byte leaves it, and one that names it says what it is
+pub looked_past : (changes : List Change) (c : Change) (held i : ℕ) → same_byte (change_at changes i) c ≡ false → held_up_to changes c held (i + 1) ≡ held_up_to changes c held i
+unfolding held_after
+looked_past changes c held i other = rw (looked_more changes c held i, other) refl
+
+pub looked_here : (changes : List Change) (c : Change) (held i : ℕ) → same_byte (change_at changes i) c ≡ true → held_after (change_at changes i) c held ≡ held_up_to changes c held (i + 1)
+unfolding held_after
+looked_here changes c held i same = rw (looked_more changes c held i, same) refl
+
+-- where none names it, it is what it was
+pub looked_end : (changes : List Change) (c : Change) (held i k : ℕ) → i ≤ 0 → held_up_to changes c held i ≡ held_up_to changes c held k → held ≡ held_up_to changes c held k
+unfolding held_up_to
+looked_end changes c held i k none e = let zero : i ≡ 0 = omega (arith, none) in rw (← e, zero) refl
 
 -- none of the changes so far passes a test
 pub none_yet : (test : ℕ → Bool) → any_below test 0 ≡ false
@@ -45,6 +59,27 @@ pub wrong_here : (first : List ℕ) (room run : List Change) (kept i held first_
 wrong_here first room run kept i held first_byte kept_byte byte c read is_c is_held is_first is_kept is_byte =
     another (byte_named first c) byte c.old_byte
     ∙ rw (is_byte, is_kept, is_first, is_held, is_c) (wrong_is first room run kept i (reads_zero first read))
+
+-- 38 at a change of the run, by the byte that is looked for, where what is named comes last
+pub another_here : (first : List ℕ) (room run : List Change) (kept i held first_byte kept_byte byte : ℕ) (c : Change) → number_of (reading first) ≡ 0
+    → c ≡ change_at run i
+    → held ≡ cond (ltb (length room) kept) (length room) kept
+    → first_byte ≡ byte_at (byte_named first c) first
+    → kept_byte ≡ held_up_to room c first_byte held
+    → byte ≡ held_up_to run c kept_byte i
+    → is_another (byte_named first c) byte c.old_byte ≡ old_wrong first (version first room kept) run i
+another_here first room run kept i held first_byte kept_byte byte c read is_c is_held is_first is_kept is_byte =
+    sym (another (byte_named first c) byte c.old_byte)
+    ∙ wrong_here first room run kept i held first_byte kept_byte byte c read is_c is_held is_first is_kept is_byte
+
+-- a change that says the byte which is there, and one that says another
+pub said_right : (found : Option ℕ) (byte said : ℕ) → eqb byte said ≡ true → false ≡ is_another found byte said
+said_right (Some x) byte said same = rw same refl
+said_right None byte said same = refl
+
+pub said_wrong : (found : Option ℕ) (byte said : ℕ) → eqb byte said ≡ false → is_some found ≡ is_another found byte said
+said_wrong (Some x) byte said other = rw other refl
+said_wrong None byte said other = refl
 
 -- one of them passes
 pub one_passes : (test : ℕ → Bool) (n i : ℕ) → i < n → true ≡ test i → true ≡ any_below test n

@@ -3,7 +3,8 @@ ghost use Rattle.std.specs.Prelude.{◌≡◌, ◌<◌, ◌≤◌, ◌+◌, leng
 ghost use Rattle.chassis.specs.Tree.{any_below};
 ghost use Rattle.picture.specs.Reading.{reading, number_of};
 ghost use Rattle.changes.specs.Versions.{version};
-ghost use Rattle.changes.specs.Adding.{names_none, old_wrong, run_number, adding_number};
+ghost use Rattle.changes.specs.Change.{byte_named};
+ghost use Rattle.changes.specs.Adding.{names_none, is_another, old_wrong, run_number, adding_number};
 ghost use Rattle.changes.specs.Refusals.{answer_number};
 
 use crate::looking::byte_before;
@@ -24,8 +25,19 @@ fn a_byte_is_missing(first: &Picture, run: &[Change]) -> bool
     false
 }
 
+// Whether a change says another old byte than this one, of a byte that it names; what it names is looked up only where it says another.
+#[tactic(auto, using(crate::proofs::Turns::said_right, crate::proofs::Turns::said_wrong))]
+fn says_another(first: &Picture, c: Change, byte: u8) -> bool
+    ensures { result ≡ is_another (byte_named first.now.bytes.now c) byte c.old_byte }
+{
+    if byte == c.old_byte {
+        return false;
+    }
+    byte_named(first, c).is_some()
+}
+
 // Whether change i of the run says another old byte than the changes kept and those before it in the run leave there.
-#[tactic(auto, using(changes::proofs::Rooms::held_within, crate::proofs::Turns::wrong_here))]
+#[tactic(auto, using(changes::proofs::Rooms::held_within, crate::proofs::Turns::another_here))]
 fn old_wrong(first: &Picture, room: &[Change], run: &[Change], kept: u32, i: usize) -> bool
     requires read { number_of (reading first.now.bytes.now) ≡ 0 }
     requires there { i < length run.now }
@@ -34,8 +46,7 @@ fn old_wrong(first: &Picture, room: &[Change], run: &[Change], kept: u32, i: usi
     let c = record_at(run, i);
     let held = held_in(kept, room.len());
     let kept_byte = byte_before(room, held, c, first_byte(first, c));
-    let byte = byte_before(run, i, c, kept_byte);
-    byte_named(first, c).is_some() & (byte != c.old_byte)
+    says_another(first, c, byte_before(run, i, c, kept_byte))
 }
 
 // Whether one of them does.
